@@ -5,15 +5,12 @@ use mathlib.Core.List.{List}
 use mathlib.Core.Option.{Option}
 use Prim.Native.Nat.{ℕ, zero, suc, ◌+◌, ◌*◌, ◌≤◌, ◌<◌}
 use native.Mathlib.Omega.{arith}
-use lib.Dec.{leb, ltb}
 use lib.ListN.{length, get_or, drop}
 use Rattle.std.specs.Prelude.{Option as Maybe, Some, None}
 use Rattle.std.specs.Bool.{MatchBool}
 use Rattle.std.specs.List.{range_with_len, AllWithin, HoldsAt}
 use Rattle.std.specs.Option.{is_some, MatchOption}
 use Rattle.std.proofs.lemmas.List.FromFn.{get_or-range_with_len, length-range_with_len}
-use Rattle.tlv.specs.declared.model.AddressRange.{AddressRange}
-use Rattle.tlv.specs.Model.{range_of as range_at_front}
 use Rattle.tlv.specs.Lists.{first, exists, map_option}
 use Rattle.lines.specs.Lines.{LineSequenceRange, same_sequence}
 use Rattle.lines.specs.Rows.{contains, belongs, sequence_exists}
@@ -21,7 +18,7 @@ use Rattle.rows.specs.declared.unit_lines.StoredLines.{StoredLines}
 use Rattle.rows.specs.Sizes.{range_sequence_at, sequence_range_size}
 use Rattle.rows.specs.Stored.{sequence_of, stored_sequence, range_at, ranges_of}
 use Rattle.rows.specs.Selects.{unit_lines_of, covering_of, FirstAt}
-use Rattle.rows.proofs.StoredLaws.{ranges-rest_cons, ranges-rest_none, range-sequence, range-front}
+use Rattle.rows.proofs.StoredLaws.{ranges-rest_cons, ranges-rest_none, range-sequence}
 
 -- ---- whether a sequence exists
 
@@ -97,17 +94,6 @@ exists-is w l (Some m) h e = sym e
 
 abbrev pub covers_at : Option ℕ → ℕ → LineSequenceRange → Bool
 covers_at s a = λ q. belongs s q.statement_sequence && contains q.range a
-
-module _ (w : List ℕ) (p a : ℕ) (s : Option ℕ) {own : Option ℕ} {t : Bool} (q : own ≡ stored_sequence w (p + range_sequence_at)) (e : t ≡ belongs s own) where
-  covers-test : t ≡ belongs s (range_at w p).statement_sequence
-  covers-test = e ∙ ap (belongs s) (q ∙ sym (range-sequence w p))
-
-  pub covers-other : t ≡ false → false ≡ covers_at s a (range_at w p)
-  covers-other f = rw (← covers-test, f)
-
-  pub covers-within : (r : AddressRange) → t ≡ true → r ≡ range_at_front (drop p w) → (leb r.start a && ltb a r.end) ≡ covers_at s a (range_at w p)
-  unfolding contains
-  covers-within r f is = rw (← covers-test, f) (ap (λ (x : AddressRange). leb x.start a && ltb a x.end) (is ∙ sym (range-front w p)))
 
 -- the sequence that was found
 pub covering-found : (w : List ℕ) (base n : ℕ) (test : LineSequenceRange → Bool) (own : Maybe ℕ) {i : ℕ} → FirstAt test w base n (Some i)

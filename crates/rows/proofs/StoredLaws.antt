@@ -9,7 +9,6 @@ use native.Mathlib.Omega.{arith}
 use lib.Dec.{eqb}
 use lib.ListN.{length, take, drop, get_or}
 use lib.Seq.{drop-drop}
-use borrow.Author.Tests.{eq-eqb, ne_eqb}
 use Rattle.std.specs.Prelude.{Option as Maybe, Some, None}
 use Rattle.std.specs.Option.{option_eq}
 use Rattle.tlv.specs.declared.model.AddressRange.{AddressRange}
@@ -40,23 +39,23 @@ code-is None = refl
 code-is (Some n) = refl
 
 pub sequence-got : (w : List ℕ) (p : ℕ) (s : Maybe ℕ) → numbers_of (λ n. n) s ≡ option_at 8 w p → sequence_of s ≡ stored_sequence w p
-unfolding stored_sequence option_at
+unfolding stored_sequence
 sequence-got w p s e = sym (code-is s) ∙ e
 
 sequence-put : {w w' : List ℕ} {p : ℕ} (s : Maybe ℕ) → PutOption w w' p 8 (numbers_of (λ n. n) s) → stored_sequence w' p ≡ sequence_of s
-unfolding stored_sequence option_at
+unfolding stored_sequence
 sequence-put s P = P.value ∙ code-is s
 
 -- in a record it is as in the table
 stored-chunk : (w : List ℕ) (p m i : ℕ) → i + sequence_size ≤ m → stored_sequence (chunk w p m) i ≡ stored_sequence w (p + i)
-unfolding stored_sequence
+unfolding stored_sequence option_at
 stored-chunk w p m i h =
     let e : p + (i + 1) ≡ p + i + 1 = omega arith in
     (λ k. cond (eqb (le_at-chunk 1 w p m i (omega arith) k) 1) (some (le_at-chunk 8 w p m (i + 1) (omega arith) k)) none)
     ∙ ap (λ (q : ℕ). cond (eqb (le_at 1 w (p + i)) 1) (some (le_at 8 w q)) none) e
 
 pub sequence-kept : {w w' : List ℕ} {p m : ℕ} (q : ℕ) → Kept w w' p m → Apart q sequence_size p m → stored_sequence w' q ≡ stored_sequence w q
-unfolding stored_sequence
+unfolding stored_sequence option_at
 sequence-kept q K (inl h) = λ k. cond (eqb (le_at-kept 1 q K (inl (omega arith)) k) 1) (some (le_at-kept 8 (q + 1) K (inl (omega arith)) k)) none
 sequence-kept q K (inr h) = λ k. cond (eqb (le_at-kept 1 q K (inr (omega arith)) k) 1) (some (le_at-kept 8 (q + 1) K (inr (omega arith)) k)) none
 

@@ -1,1 +1,2 @@
+mod EarlierLaws
 mod OwnRowLaws

@@ -24,8 +24,8 @@ unit_lines_of w l = record {
   sequences = ranges_of w l.sequences.base l.sequences.count;
 }
 
--- Stays a clause: it speaks of rows in the work slice, which is lent and written, so no type that outlives a write can hold it.
 -- rows and sequences stand below the buffer, which has room for a function's rows and one more; the rows are sorted
+-- Stays a clause: it speaks of rows in the work slice, which is lent and written, so no type that outlives a write can hold it.
 pub record RowsIn (w : List ℕ) (l : StoredLines) : Type 0 where
   pub lines : l.lines.base + l.lines.count * line_size ≤ l.buffer
   pub sequences : l.sequences.base + l.sequences.count * sequence_range_size ≤ l.buffer

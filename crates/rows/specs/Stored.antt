@@ -1,21 +1,22 @@
 -- Contract. Rows and sequences as records in a list of bytes (document 01: the work slice), and what the functions that read and write one promise.
-use Rattle.std.specs.Prelude.{ℕ, ◌+◌, ◌≡◌, cond, List, eqb, Option as Maybe, Some, None}
+use Rattle.std.specs.Prelude.{ℕ, ◌≡◌, List, Option as Maybe, Some, None}
 use Rattle.std.proofs.Math.Option.{Option, none, some}
 use Rattle.tlv.specs.declared.model.AddressRange.{AddressRange}
 use Rattle.tlv.specs.declared.model.LineEntry.{LineEntry}
 use Rattle.tlv.specs.Bytes.{le_at}
 use Rattle.buffers.specs.Table.{chunk, records, Kept}
+use Rattle.buffers.specs.Options.{option_at}
 use Rattle.lines.specs.Lines.{SequencedLine, LineSequenceRange}
-use Rattle.rows.specs.Sizes.{column_at, entry_size, line_size, range_sequence_at, sequence_range_size, sequence_size}
+use Rattle.rows.specs.Sizes.{column_at, entry_size, line_size, range_sequence_at, sequence_range_size}
 
 -- what the code's Option says, in the definitions' own
 abbrev pub sequence_of : Maybe ℕ → Option ℕ
 sequence_of (Some n) = some n
 sequence_of None = none
 
--- whether there is an offset, and the offset
+-- whether there is an offset, and the offset: a number of 8 bytes that may be missing
 unfoldable pub stored_sequence : List ℕ → ℕ → Option ℕ
-stored_sequence b p = cond (eqb (le_at 1 b p) 1) (some (le_at 8 b (p + 1))) none
+stored_sequence b p = option_at 8 b p
 
 -- ---- a function's row
 

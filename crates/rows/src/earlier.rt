@@ -8,8 +8,8 @@ ghost use Rattle.rows.specs.Stored.{sequence_of, entries_of, lines_of, range_at,
 ghost use Rattle.rows.specs.Selects.{unit_lines_of, RowsIn, FirstAt, covering_of, Fronted};
 
 use crate::line::{
-    ENTRY_SIZE, LINE_SIZE, LineSequenceRange, RANGE_SEQUENCE, SEQUENCE_RANGE_SIZE, belongs_to,
-    entry_at, put_entry, sequence_at,
+    ENTRY_SIZE, LINE_SIZE, LineSequenceRange, RANGE_SEQUENCE, SEQUENCE_RANGE_SIZE, SequencedLine,
+    belongs_to, put_entry, sequence_at,
 };
 use crate::search::lower_row;
 use crate::unit_lines::StoredLines;
@@ -24,8 +24,8 @@ fn covers(work: &[u8], p: usize, address: u64, asked: Option<u64>) -> bool
     ensures { result ≡ (belongs (sequence_of asked) (range_at work.now p).statement_sequence
         && contains (range_at work.now p).range address) }
 {
-    belongs_to(asked, sequence_at(work, p + RANGE_SEQUENCE))
-        && AddressRange::read(work, p).holds(address)
+    let sequence = LineSequenceRange::read(work, p);
+    belongs_to(asked, sequence.statement_sequence) && sequence.range.holds(address)
 }
 
 // The number of the first sequence that covers an address and belongs to the one that is asked for.
@@ -54,55 +54,6 @@ fn first_covering(
     )
 }
 
-// The first sequence that covers an address and belongs to the one that is asked for.
-fn covering_sequence(
-    work: &[u8],
-    l: StoredLines,
-    address: u64,
-    asked: Option<u64>,
-) -> Option<Option<u64>>
-    requires { RowsIn work.now l }
-    ensures { covering_of result (first (λ q. belongs (sequence_of asked) q.statement_sequence && contains q.range address)
-        (ranges_of work.now l.sequences.base l.sequences.count)) }
-{
-    let i = first_covering(work, l.sequences, address, asked)?;
-    let p = l.sequences.base + i * SEQUENCE_RANGE_SIZE;
-    Some(sequence_at(work, p + RANGE_SEQUENCE))
-}
-
-// The last row below an address that belongs to the sequence that is asked for, moved to the address.
-fn last_before(work: &[u8], l: StoredLines, address: u64, asked: Option<u64>) -> Option<LineEntry>
-    requires { RowsIn work.now l }
-    ensures { option_to_list result ≡ moved_to address (last (λ x. ltb x.entry.address address && belongs (sequence_of asked) x.statement_sequence)
-        (lines_of work.now l.lines.base l.lines.count)) }
-{
-    // Stays a loop: of `find` over a range that is reversed std's lemmas say nothing.
-    for i in (0..lower_row(work, l.lines, address)).rev() {
-        let p = l.lines.base + i * LINE_SIZE;
-        if belongs_to(asked, sequence_at(work, p + ENTRY_SIZE)) {
-            return Some(LineEntry {
-                address,
-                ..entry_at(work, p)
-            });
-        }
-    }
-    None
-}
-
-// The row that is in force at the start of a range.
-fn earlier_row(
-    work: &[u8],
-    l: StoredLines,
-    range: AddressRange,
-    asked: Option<u64>,
-) -> Option<LineEntry>
-    requires { RowsIn work.now l }
-    ensures { option_to_list result ≡ earlier_row (unit_lines_of work.now l) range (sequence_of asked) }
-{
-    let own = covering_sequence(work, l, range.start, asked)?;
-    last_before(work, l, range.start, asked.or(own))
-}
-
 // Whether rows are none, or the first is above a start.
 fn starts_late(work: &[u8], rows: Stored<LineEntry>, start: u64) -> bool
     requires { rows.base + rows.count * entry_size ≤ length work.now }
@@ -111,25 +62,67 @@ fn starts_late(work: &[u8], rows: Stored<LineEntry>, start: u64) -> bool
     rows.count == 0 || start < u64::read(work, rows.base)
 }
 
-// Puts the row in force at the start before the `count` own rows, which stand a row past the buffer's begin, where they start late.
-pub fn put_earlier(
-    work: &mut [u8],
-    l: StoredLines,
-    range: AddressRange,
-    asked: Option<u64>,
-    count: usize,
-) -> Stored<LineEntry>
-    requires rows_in { RowsIn work.old l }
-    requires count_bound { count ≤ l.lines.count }
-    ensures { Fronted work.old work.new l range asked count result }
-{
-    let own = Stored::new(l.buffer + ENTRY_SIZE, count);
-    if !starts_late(work, own, range.start) {
-        return own;
+impl StoredLines {
+    // The first sequence that covers an address and belongs to the one that is asked for.
+    fn covering_sequence(self, work: &[u8], address: u64, asked: Option<u64>) -> Option<Option<u64>>
+        requires { RowsIn work.now self }
+        ensures { covering_of result (first (λ q. belongs (sequence_of asked) q.statement_sequence && contains q.range address)
+            (ranges_of work.now self.sequences.base self.sequences.count)) }
+    {
+        let i = first_covering(work, self.sequences, address, asked)?;
+        let p = self.sequences.base + i * SEQUENCE_RANGE_SIZE;
+        Some(sequence_at(work, p + RANGE_SEQUENCE))
     }
-    let Some(entry) = earlier_row(work, l, range, asked) else {
-        return own;
-    };
-    put_entry(work, l.buffer, entry);
-    Stored::new(l.buffer, count + 1)
+
+    // The last row below an address that belongs to the sequence that is asked for, moved to the address.
+    fn last_before(self, work: &[u8], address: u64, asked: Option<u64>) -> Option<LineEntry>
+        requires { RowsIn work.now self }
+        ensures { option_to_list result ≡ moved_to address (last (λ x. ltb x.entry.address address && belongs (sequence_of asked) x.statement_sequence)
+            (lines_of work.now self.lines.base self.lines.count)) }
+    {
+        // Stays a loop: std's lemmas follow `rev` of a slice, but not of a range.
+        for i in (0..lower_row(work, self.lines, address)).rev() {
+            let row = SequencedLine::read(work, self.lines.base + i * LINE_SIZE);
+            if belongs_to(asked, row.statement_sequence) {
+                return Some(LineEntry {
+                    address,
+                    ..row.entry
+                });
+            }
+        }
+        None
+    }
+
+    // The row that is in force at the start of a range.
+    // Stays with range and sequence apart, as put_earlier, own_rows and for_range: a struct would be made in for_range and taken apart in each.
+    fn earlier_row(self, work: &[u8], range: AddressRange, asked: Option<u64>) -> Option<LineEntry>
+        requires { RowsIn work.now self }
+        ensures { option_to_list result ≡ earlier_row (unit_lines_of work.now self) range (sequence_of asked) }
+    {
+        let own = self.covering_sequence(work, range.start, asked)?;
+        self.last_before(work, range.start, asked.or(own))
+    }
+
+    // Puts the row in force at the start before the `count` own rows, which stand a row past the buffer's begin, where they start late.
+    pub fn put_earlier(
+        self,
+        work: &mut [u8],
+        range: AddressRange,
+        asked: Option<u64>,
+        count: usize,
+    ) -> Stored<LineEntry>
+        requires rows_in { RowsIn work.old self }
+        requires count_bound { count ≤ self.lines.count }
+        ensures { Fronted work.old work.new self range asked count result }
+    {
+        let own = Stored::new(self.buffer + ENTRY_SIZE, count);
+        if !starts_late(work, own, range.start) {
+            return own;
+        }
+        let Some(entry) = self.earlier_row(work, range, asked) else {
+            return own;
+        };
+        put_entry(work, self.buffer, entry);
+        Stored::new(self.buffer, count + 1)
+    }
 }

@@ -3,7 +3,7 @@ ghost use Rattle.std.specs.Prelude.{◌≡◌, ◌+◌, ◌≤◌, length};
 ghost use Rattle.buffers.specs.Table.{chunk};
 ghost use Rattle.lines.specs.Rows.{belongs};
 ghost use Rattle.rows.specs.Sizes.{entry_size, line_size, sequence_range_size, sequence_size};
-ghost use Rattle.rows.specs.Stored.{sequence_of, stored_sequence, entry_of, line_at, PutEntry, PutLine, PutSequenceRange};
+ghost use Rattle.rows.specs.Stored.{sequence_of, stored_sequence, entry_of, line_at, range_at, PutEntry, PutLine, PutSequenceRange};
 
 use buffers::numbers::{Written, put_option, read_option};
 use buffers::table::put_range_at;
@@ -51,6 +51,7 @@ pub fn belongs_to(asked: Option<u64>, own: Option<u64>) -> bool
 }
 
 // The sequence at p: the offset at which its instructions begin, where that is known.
+// Stays a function, as the three below: a search or a test reads one part of many records; LineEntry is tlv's, so only a trait could give it a method here.
 pub fn sequence_at(work: &[u8], p: usize) -> Option<u64>
     requires { p + sequence_size ≤ length work.now }
     ensures { sequence_of result ≡ stored_sequence work.now p }
@@ -90,18 +91,49 @@ pub fn put_entry(work: &mut [u8], p: usize, entry: LineEntry)
     entry.column.write(work, p + COLUMN);
 }
 
-pub fn put_line(work: &mut [u8], p: usize, line: SequencedLine)
-    requires { p + line_size ≤ length work.old }
-    ensures { PutLine work.old work.new p line.entry line.statement_sequence }
-{
-    put_entry(work, p, line.entry);
-    put_option(work, p + ENTRY_SIZE, line.statement_sequence);
+impl SequencedLine {
+    // The row is put at p: its parts one after the other.
+    // Stays beside the writes and reads of other records, as do this `read` and a sequence's two: each has fields of its own.
+    pub fn write(self, work: &mut [u8], p: usize)
+        requires { p + line_size ≤ length work.old }
+        ensures { PutLine work.old work.new p self.entry self.statement_sequence }
+    {
+        put_entry(work, p, self.entry);
+        put_option(work, p + ENTRY_SIZE, self.statement_sequence);
+    }
+
+    // The row at p, with its sequence.
+    pub fn read(work: &[u8], p: usize) -> SequencedLine
+        requires { p + line_size ≤ length work.now }
+        ensures entry { result.entry ≡ (line_at work.now p).entry }
+        ensures sequence { sequence_of result.statement_sequence ≡ (line_at work.now p).statement_sequence }
+    {
+        SequencedLine {
+            entry: entry_at(work, p),
+            statement_sequence: sequence_at(work, p + ENTRY_SIZE),
+        }
+    }
 }
 
-pub fn put_sequence_range(work: &mut [u8], p: usize, sequence: LineSequenceRange)
-    requires { p + sequence_range_size ≤ length work.old }
-    ensures { PutSequenceRange work.old work.new p sequence.range sequence.statement_sequence }
-{
-    put_range_at(work, p, sequence.range);
-    put_option(work, p + RANGE_SEQUENCE, sequence.statement_sequence);
+impl LineSequenceRange {
+    // The sequence is put at p: its addresses, and then its offset.
+    pub fn write(self, work: &mut [u8], p: usize)
+        requires { p + sequence_range_size ≤ length work.old }
+        ensures { PutSequenceRange work.old work.new p self.range self.statement_sequence }
+    {
+        put_range_at(work, p, self.range);
+        put_option(work, p + RANGE_SEQUENCE, self.statement_sequence);
+    }
+
+    // The sequence at p, with its addresses.
+    pub fn read(work: &[u8], p: usize) -> LineSequenceRange
+        requires { p + sequence_range_size ≤ length work.now }
+        ensures range { result.range ≡ (range_at work.now p).range }
+        ensures sequence { sequence_of result.statement_sequence ≡ (range_at work.now p).statement_sequence }
+    {
+        LineSequenceRange {
+            range: AddressRange::read(work, p),
+            statement_sequence: sequence_at(work, p + RANGE_SEQUENCE),
+        }
+    }
 }

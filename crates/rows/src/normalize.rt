@@ -36,10 +36,11 @@ fn same_row(work: &[u8], p: usize, q: usize) -> bool
 }
 
 // Of the records of `size` bytes of a table, those that repeat the one kept before them are dropped. Returns how many are left.
+// Stays a count, as the two below: the place stays the caller's, and a `Stored` would come with a clause that it does.
 fn drop_repeats<R, F: Fn(&[u8], usize, usize) -> bool>(
     work: &mut [u8],
     rows: Stored<R>,
-    // Stays a number beside `R`: a trait with the size would serve these two tables alone, since sorting's Record asks besides for a key and a write.
+    // Stays a number beside `R`: with a trait that has the size each type would have an `impl`, and each clause its member for a number.
     size: usize,
     repeats: F,
 ) -> usize

@@ -9,6 +9,7 @@ use buffers::search::lower_bound;
 use buffers::table::Stored;
 
 // Of sorted rows, the index of the first whose address is at least `address`, or their number.
+// Stays a clause that the table lies in the slice: sort.rt says why.
 pub fn lower_row(work: &[u8], rows: Stored<SequencedLine>, address: u64) -> usize
     requires rows_within { rows.base + rows.count * line_size ≤ length work.now }
     requires sorted { Sorted 0 (lines_of work.now rows.base rows.count) }

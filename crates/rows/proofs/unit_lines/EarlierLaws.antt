@@ -14,17 +14,17 @@ use Rattle.tlv.specs.declared.model.AddressRange.{AddressRange}
 use Rattle.tlv.specs.declared.model.LineEntry.{LineEntry}
 use Rattle.tlv.specs.Lists.{first, last, or_else}
 use Rattle.tlv.proofs.ListLaws.{all_map, mapped}
-use Rattle.buffers.specs.Table.{chunk, tab, records}
+use Rattle.buffers.specs.Table.{tab, records}
 use Rattle.lines.specs.Lines.{SequencedLine}
 use Rattle.lines.specs.Rows.{belongs, moved_to, earlier_row}
 use Rattle.rows.specs.declared.unit_lines.StoredLines.{StoredLines}
-use Rattle.rows.specs.Sizes.{entry_size, line_size}
-use Rattle.rows.specs.Stored.{sequence_of, stored_sequence, entry_of, line_at, lines_of, ranges_of}
+use Rattle.rows.specs.Sizes.{line_size}
+use Rattle.rows.specs.Stored.{sequence_of, line_at, lines_of, ranges_of}
 use Rattle.rows.specs.Sorts.{leading}
 use Rattle.rows.specs.Selects.{unit_lines_of, RowsIn, covering_of}
 use Rattle.rows.proofs.LeadingLaws.{leading-most, all_from, row_below}
 use Rattle.rows.proofs.FilterLaws.{last-append, last-take}
-use Rattle.rows.proofs.StoredLaws.{line-sequence, line-entry, lines-take, lines-suc}
+use Rattle.rows.proofs.StoredLaws.{lines-take, lines-suc}
 use Rattle.rows.proofs.SequenceLaws.{covers_at}
 
 abbrev pub earlier_than : ℕ → Option ℕ → SequencedLine → Bool
@@ -52,11 +52,11 @@ back_start {w} {l} {a} {i} s R e =
     }
 
 module _ {w : List ℕ} {base n a i : ℕ} {s : Option ℕ} (B : Backwards w base n a s i) where
-  module _ (own : Maybe ℕ) {t : Bool} (h : 0 < i) (q : sequence_of own ≡ stored_sequence w (base + (i - 1) * line_size + entry_size)) (e : t ≡ belongs s (sequence_of own)) where
+  module _ (own : Maybe ℕ) {t : Bool} (h : 0 < i) (q : sequence_of own ≡ (line_at w (base + (i - 1) * line_size)).statement_sequence) (e : t ≡ belongs s (sequence_of own)) where
     back-test : earlier_than a s (line_at w (base + (i - 1) * line_size)) ≡ t
     back-test =
         rw (lt-ltb (line_at w (base + (i - 1) * line_size)).entry.address a (row_below w base n a (i - 1) (omega (arith, B.most)) (omega (arith, B.few))))
-        (ap (belongs s) (line-sequence w (base + (i - 1) * line_size) ∙ sym q) ∙ sym e)
+        (ap (belongs s) (sym q) ∙ sym e)
 
     -- row i - 1 is the last of the i
     last_row : last (earlier_than a s) (lines_of w base i) ≡ or_else (cond t (some (line_at w (base + (i - 1) * line_size))) none) (last (earlier_than a s) (lines_of w base (i - 1)))
@@ -72,12 +72,10 @@ module _ {w : List ℕ} {base n a i : ℕ} {s : Option ℕ} (B : Backwards w bas
     unfolding or_else
     back-next f = record { few = omega (arith, B.few); most = omega (arith, B.most); left = B.left ∙ last_row ∙ rw f }
 
-    pub back_found : {x : LineEntry} → t ≡ true → x ≡ entry_of (chunk w (base + (i - 1) * line_size) entry_size)
+    pub back_found : {x : LineEntry} → t ≡ true → x ≡ (line_at w (base + (i - 1) * line_size)).entry
         → option_to_list (Some (record { address = a; file = x.file; line = x.line; column = x.column })) ≡ moved_to a (last (earlier_than a s) (lines_of w base n))
     unfolding or_else
-    back_found {x} f is =
-        let same : x ≡ (line_at w (base + (i - 1) * line_size)).entry = is ∙ sym (line-entry w (base + (i - 1) * line_size)) in
-        rw (B.left, last_row, f, same)
+    back_found {x} f is = rw (B.left, last_row, f, is)
 
   pub back_none : i ≤ 0 → option_to_list {X = LineEntry} None ≡ moved_to a (last (earlier_than a s) (lines_of w base n))
   unfolding last lines_of records tab

@@ -1,7 +1,7 @@
--- `unit_lines::own_rows` meets its contract.
+-- `StoredLines::own_rows` meets its contract.
 use Rattle.rows.proofs.unit_lines.OwnRowLaws.{own-start, own-past, own-not, own-take, own-done}
-use Rattle.rows.proofs.unit_lines.own_rows.Goals as goal
-use Rattle.rows.proofs.unit_lines.own_rows.Goals.{then-takes_row, else-takes_row}
+use Rattle.rows.proofs.unit_lines.StoredLines.own_rows.Goals as goal
+use Rattle.rows.proofs.unit_lines.StoredLines.own_rows.Goals.{then-takes_row, else-takes_row}
 
 pub returns-then-range-address : goal.returns-then-range-address
 returns-then-range-address c = own-past c.loop-i.invariant c.requires.rows_below_target c.loop-i-test.true c.address_at-address.ensures c.if-range-address.true

@@ -1,8 +1,8 @@
--- `unit_lines::for_range` meets its contract. With 0 in place of `below` too: `none_below`.
+-- `StoredLines::for_range` meets its contract. With 0 in place of `below` too: `none_below`.
 use mathlib.Core.Path.{ap}
 use mathlib.Core.Bool.{not}
 use Rattle.rows.proofs.ForRangeLaws.{rows-in_kept, for-missing, for-found}
-use Rattle.rows.proofs.unit_lines.for_range.Goals as goal
+use Rattle.rows.proofs.unit_lines.StoredLines.for_range.Goals as goal
 
 pub put_earlier-fronted-requires-clause-rows_in : goal.put_earlier-fronted-requires-clause-rows_in
 put_earlier-fronted-requires-clause-rows_in c = rows-in_kept c.own_rows-own.ensures.rest c.requires c.own_rows-own.auto.work
