@@ -16,6 +16,7 @@ fn same_line(a: LineEntry, b: LineEntry) -> bool
 }
 
 // Of each run of rows with one file and line the first is kept, moved down in place. Returns how many are left.
+// Stays beside rows' compact_line_rows: that drops records in bytes of the work slice; one loop would take a copy and a test of each kind.
 pub fn compact_line_rows(lines: &mut [LineEntry]) -> usize
     ensures { CompactsRows lines.old lines.new result }
 {
