@@ -26,9 +26,9 @@ use Rattle.access.proofs.UnitFacts.{unit-file_zero}
 use Rattle.paths.specs.Paths.{file_entry}
 use Rattle.lines.specs.Files.{get, header_file}
 use Rattle.files.specs.declared.spans.Span.{Span}
-use Rattle.files.specs.Pieces.{span_in}
+use Rattle.files.specs.Pieces.{span_in, FileSpanIn}
 use Rattle.files.specs.Indices.{indices_in}
-use Rattle.files.specs.Interns.{FileSpanIn, OfUnit}
+use Rattle.files.specs.Interns.{OfUnit}
 use Rattle.files.proofs.PieceLaws.{at_some, at_none}
 use Rattle.files.proofs.UnitLaws.{first-none, first_found, unit-next}
 use Rattle.collect.specs.declared.convert.Conversion.{Conversion}

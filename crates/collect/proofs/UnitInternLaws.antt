@@ -14,8 +14,6 @@ use Rattle.tlv.specs.declared.model.DebugSource.{DebugSource}
 use Rattle.tlv.specs.Outcome.{done, ◌>>=◌}
 use Rattle.tlv.specs.Model.{CompilationUnit, LineHeader, HeaderFile}
 use Rattle.tlv.proofs.OutcomeLaws.{done-is, with_done}
-use Rattle.buffers.specs.declared.table.Stored.{Stored}
-use Rattle.tlv.specs.declared.model.FileIndex.{FileIndex}
 use Rattle.buffers.specs.Table.{KeptBut}
 use Rattle.buffers.proofs.TableLaws.{here, there, but_of, but_one, but_trans}
 use Rattle.access.specs.Places.{unit_here}
@@ -91,14 +89,13 @@ module _ {main supplementary w w₁ : List ℕ} {p : ℕ} {t : StoredFiles} {bas
     interned-refused = record { is = interned_is I; after = tt; rest = interned_rest I }
 
   module _ {w₂ files files₂ : List ℕ} {r : InternedFiles} (I : InternsHeader main supplementary w₁ w₂ files files₂ t main u (base + u.directories.count * 8) (Ok r)) where
-    pub interned_done : length w₂ ≡ length w → {is : Stored FileIndex} → is.base ≡ base + u.directories.count * 8 → is.count ≡ r.count
-        → InternsUnit main supplementary w w₂ files files₂ p t base (Ok (record { unit = u; indices = is; table = r.table }))
-    interned_done last from many =
+    pub interned_done : length w₂ ≡ length w → InternsUnit main supplementary w w₂ files files₂ p t base (Ok (record { unit = u; indices = r.map; table = r.table }))
+    interned_done last =
         let after = I.after in
         let a = R.table in
         let d = D.directories in
         record {
-          is = rw (from, many) (interned_is I);
+          is = rw after.1.0 (interned_is I);
           after = record {
             grown = grown-after F (but_one D.rest) (inl R.table, tt) after.0;
             described = unit_kept D.unit I.rest (inr (omega arith), (inl (omega arith), tt)) (omega arith);
@@ -106,8 +103,8 @@ module _ {main supplementary w w₁ : List ℕ} {p : ℕ} {t : StoredFiles} {bas
             place = D.place;
             directories = D.directories;
             count = D.count;
-            map = from;
-            few = rw many (rw D.place at after.1);
+            map = after.1.0;
+            few = rw D.place at after.1.1;
           };
           rest = interned_rest I;
         }

@@ -26,7 +26,7 @@ use Rattle.machine.specs.LineRows.{rows_most, collect_lines}
 use Rattle.collect.specs.declared.collect.CollectedLines.{CollectedLines}
 
 -- a unit stands at a place
--- Stays a clause: it holds the unit's number, so no ghost field may hold it.
+-- Stays a clause: it holds the unit's number, and that there is one such number alone would be shown for a ghost field only.
 pub record UnitIn (s : List ℕ) (p : ℕ) : Type 0 where
   pub number : ℕ
   pub is : at (unit_places 0 (fields s)) number ≡ some p

@@ -43,8 +43,9 @@ pub struct CollectedLines {
 
 impl Conversion<'_> {
     // Gathers the unit's rows, which go above its lines, and makes these of them.
-    // Stays with what is lent apart: `Outputs` has a tray of records too, of which each here would have to promise that it stays; one of files and
-    // warnings alone would be made of `Outputs` for each unit, and taken apart for intern_unit and convert_line.
+    // Stays with what is lent apart: `Outputs`, which is of a crate above, has a tray of records too, of which each here would have to promise that it
+    // stays; one of files and warnings alone would be made of `Outputs` for each unit, and taken apart for intern_unit and convert_line. And with the table
+    // and the warnings' place apart: intern_unit takes and grows the first, before there is anything to warn of.
     fn collect_rows(
         self,
         source: Option<UnitProgram>,

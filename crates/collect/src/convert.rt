@@ -16,7 +16,7 @@ use files::index::FileNumber;
 use files::sheets::Sheets;
 use files::spans::{FileUnit, Span};
 use files::store::StoredFiles;
-use rows::line::{LINE_SIZE, SequencedLine, put_line};
+use rows::line::{LINE_SIZE, SequencedLine};
 use tlv::fields::FieldSpan;
 use tlv::model::{FileIndex, LineEntry};
 use tlv::refusal::Refusal;
@@ -33,6 +33,7 @@ pub struct Conversion<'a> {
 }
 
 // The file table, how many lines there are, and how many bytes of warnings were written.
+// Stays a count: where the lines go is the Conversion's and fixed, and the count alone moves, as with dies' Sites.
 #[derive(Clone, Copy, Debug)]
 pub struct Converting {
     pub table: StoredFiles,
@@ -41,6 +42,7 @@ pub struct Converting {
 }
 
 // A row with the number of its sequence.
+// Stays beside tlv's LineEntry, whose file is the table's number and whose line has 32 bits, and machine's Registers, with a wider column and no sequence.
 #[derive(Clone, Copy, Debug)]
 pub struct Row {
     pub address: u64,
@@ -70,7 +72,7 @@ impl Conversion<'_> {
             },
             statement_sequence: sequence_offset(work, self.offsets, row.sequence),
         };
-        put_line(work, self.lines + count * LINE_SIZE, converted);
+        converted.write(work, self.lines + count * LINE_SIZE);
         true
     }
 

@@ -56,13 +56,13 @@ impl Conversion<'_> {
     {
         let converted = Stored::new(self.lines, count);
         let at = self.lines + count * LINE_SIZE;
-        let found = collect_sequences(self.sheets.main, rows, work, self.offsets, at);
-        let buffer = at + found * SEQUENCE_RANGE_SIZE;
+        let sequences = collect_sequences(self.sheets.main, rows, work, self.offsets, at);
+        let buffer = at + sequences.count * SEQUENCE_RANGE_SIZE;
         sort_rows(work, converted, buffer);
         let left = dedup_rows(work, converted);
         StoredLines {
             lines: Stored::new(self.lines, left),
-            sequences: Stored::new(at, found),
+            sequences,
             buffer,
         }
     }

@@ -47,8 +47,8 @@ pub fn scan_program(
 }
 
 // Writes the spans of the unit's directories at base, and the unit's map behind them.
-// Stays beside declarations' join_files, which begins with the same three steps: a method of both would have a contract as long as either, and
-// would hand back a unit and a map, which that drops.
+// Stays beside declarations' join_files, which takes the same three steps, for a unit of either sheet, behind a test for its header (without one it
+// hands back the table as it was): a method of both would have a contract as long as either, and would hand back a unit and a map, which that drops.
 pub fn intern_unit(
     sheets: Sheets,
     place: usize,
@@ -69,7 +69,7 @@ pub fn intern_unit(
     let interned = t.intern_header_files(sheets, unit, work, files, at)?;
     Ok(InternedUnit {
         unit,
-        indices: Stored::new(at, interned.count),
+        indices: interned.map,
         table: interned.table,
     })
 }

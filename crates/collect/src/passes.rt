@@ -9,18 +9,12 @@ ghost use Rattle.collect.specs.Passes.{rows_from, count_rows, counted_of, Sequen
 
 use buffers::table::Stored;
 use line_program::lines::OFFSET_RECORD;
-use rows::line::{LineSequenceRange, put_sequence_range};
+use rows::line::LineSequenceRange;
 use tlv::bytes::Number;
+use tlv::kinds::{END_ROW, FAILED_ROW};
 use tlv::model::AddressRange;
 use tlv::refusal::Refusal;
 use tlv::shapes::ROW_KIND;
-
-// The kinds of a row: one of a sequence, one that ends it, and one that could not be read.
-pub const PLAIN_ROW: u8 = 0;
-
-pub const END_ROW: u8 = 1;
-
-pub const FAILED_ROW: u8 = 2;
 
 // Rows that were counted: those in finished sequences, those of the sequence that is open, and how many sequences are finished.
 #[derive(Clone, Copy, Debug, Default)]
@@ -86,6 +80,7 @@ pub fn sequence_offset(work: &[u8], offsets: Stored<u64>, sequence: usize) -> Op
 }
 
 // Writes at p the record of the sequence of a number, with its offset.
+// Stays a clause, as in store_lines and collect_sequences: each asks it of another place, up to which it writes then.
 pub fn put_sequence_record(
     work: &mut [u8],
     offsets: Stored<u64>,
@@ -101,5 +96,5 @@ pub fn put_sequence_record(
         range,
         statement_sequence: sequence_offset(work, offsets, sequence),
     };
-    put_sequence_range(work, p, sequence);
+    sequence.write(work, p);
 }

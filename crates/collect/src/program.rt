@@ -6,31 +6,30 @@ ghost use Rattle.collect.specs.Tables.{RowPut, GathersRows};
 ghost use Rattle.collect.specs.Sources.{program_in};
 
 use crate::convert::Row;
-use crate::passes::{CountedRows, END_ROW, PLAIN_ROW};
+use crate::passes::CountedRows;
 use crate::source::UnitProgram;
 use buffers::numbers::Written;
 use buffers::table::Stored;
 use machine::machine::Emitted;
 use machine::program::LineProgram;
 use machine::registers::Registers;
+use tlv::kinds::{END_ROW, PLAIN_ROW};
 use tlv::refusal::Refusal;
-use tlv::shapes::{ROW_COLUMN, ROW_FIELD, ROW_KIND, ROW_LINE};
-
-// The largest column that a row has: a larger one is written so.
-const LAST_COLUMN: u64 = 65535;
+use tlv::shapes::{ROW_COLUMN, ROW_FIELD, ROW_FILE, ROW_KIND, ROW_LINE};
 
 // How many rows and sequences a program has, and the table of all its rows.
+// Stays beside GatheredRows: this one's rows are always a table, as GathersRows says; an enum would have to be told which of its cases it is.
 #[derive(Clone, Copy, Debug)]
 pub struct ProgramRows {
     pub counted: CountedRows,
     pub rows: Stored<Row>,
 }
 
-// The column that a row shows.
+// The column that a row shows: a larger one as the largest that it can.
 fn shown_column(column: u64) -> u16
     ensures { result ≡ min column 65535 }
 {
-    column.min(LAST_COLUMN) as u16
+    column.min(u64::from(u16::MAX)) as u16
 }
 
 // Writes at p the row that registers show.
@@ -40,7 +39,7 @@ fn put_row(work: &mut [u8], p: usize, r: Registers, kind: u8)
 {
     let column = shown_column(r.column);
     r.address.write(work, p);
-    r.file.write(work, p + 8);
+    r.file.write(work, p + ROW_FILE);
     r.line.write(work, p + ROW_LINE);
     column.write(work, p + ROW_COLUMN);
     kind.write(work, p + ROW_KIND);

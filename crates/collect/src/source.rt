@@ -14,9 +14,11 @@ use machine::registers::Encoding;
 use rows::line::LINE_SIZE;
 use tlv::bytes::Number;
 use tlv::refusal::Refusal;
+use tlv::shapes::{ENCODING_FLAG, ENCODING_LINE_BASE, ENCODING_LINE_RANGE, ENCODING_OPERATIONS};
 use tlv::tags::ENCODING_TAG;
 
 // A unit's line program with its encoding and its opcode lengths, as the unit's fields give them: the row machine may refuse the encoding.
+// Stays beside machine's LineProgram, whose line range is not 0: a unit's fields may say 0, until LineProgram::new refuses it.
 #[derive(Clone, Copy, Debug)]
 pub struct UnitProgram<'a> {
     pub program: &'a [u8],
@@ -38,10 +40,10 @@ fn read_encoding(main: &[u8], start: usize, opcode_base: u8) -> Encoding
 {
     Encoding {
         minimum_instruction_length: u8::read(main, start),
-        maximum_operations: u8::read(main, start + 1),
-        default_is_stmt: u8::read(main, start + 2) == 1,
-        line_base: u8::read(main, start + 3),
-        line_range: u8::read(main, start + 4),
+        maximum_operations: u8::read(main, start + ENCODING_OPERATIONS),
+        default_is_stmt: u8::read(main, start + ENCODING_FLAG) == 1,
+        line_base: u8::read(main, start + ENCODING_LINE_BASE),
+        line_range: u8::read(main, start + ENCODING_LINE_RANGE),
         opcode_base,
     }
 }
@@ -65,6 +67,7 @@ pub fn row_source<'a>(
 }
 
 // Counts the rows of a unit whose lines go to a place. A program's rows go to a table above all the lines and sequences that they can become.
+// Stays a clause, as in row_fault and collect_rows: it bounds the lent work slice, which is written, so no value holds the fact.
 pub fn gather_unit_rows(
     main: &[u8],
     p: usize,
@@ -104,8 +107,7 @@ pub fn row_fault(
     ensures { FindsFault (source_rows main.now p source.entry) work.old work.new free
         (most_rows main.now p source.entry) (number_of later) (number_of result) }
 {
-    match gather_unit_rows(main, p, source, work, free) {
-        Err(fault) => fault,
-        Ok(_) => later,
-    }
+    gather_unit_rows(main, p, source, work, free)
+        .err()
+        .unwrap_or(later)
 }

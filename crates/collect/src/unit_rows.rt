@@ -9,11 +9,11 @@ ghost use Rattle.collect.specs.Sources.{RowsReady};
 ghost use Rattle.collect.specs.Walks.{FoundAt, FindsRow};
 
 use crate::convert::Row;
-use crate::passes::END_ROW;
 use buffers::table::Stored;
 use files::index::FileNumber;
 use tlv::bytes::Number;
-use tlv::shapes::{ROW_COLUMN, ROW_FIELD, ROW_KIND, ROW_LINE};
+use tlv::kinds::END_ROW;
+use tlv::shapes::{ROW_COLUMN, ROW_FIELD, ROW_FILE, ROW_KIND, ROW_LINE};
 
 // The rows that are left: those of the fields that follow a place, or those of a table.
 #[derive(Clone, Copy, Debug)]
@@ -38,7 +38,7 @@ impl Row {
     {
         Row {
             address: u64::read(s, start),
-            file: FileNumber(u64::read(s, start + 8)),
+            file: FileNumber(u64::read(s, start + ROW_FILE)),
             line: u64::read(s, start + ROW_LINE),
             column: u16::read(s, start + ROW_COLUMN),
             sequence,

@@ -1,6 +1,6 @@
 // The two walks over a unit's rows: what they become as lines, and where their sequences lie.
 ghost use Rattle.std.proofs.Math.Option.{none};
-ghost use Rattle.std.specs.Prelude.{◌+◌, ◌*◌, ◌≤◌, length};
+ghost use Rattle.std.specs.Prelude.{◌≡◌, ◌+◌, ◌*◌, ◌≤◌, length};
 ghost use Rattle.line_program.specs.Scan.{offset_record};
 ghost use Rattle.rows.specs.Sizes.{line_size, sequence_range_size};
 ghost use Rattle.collect.specs.Passes.{sequences_from, SequencesIn};
@@ -11,7 +11,7 @@ use crate::convert::{Conversion, Converting};
 use crate::passes::put_sequence_record;
 use crate::unit_rows::UnitRows;
 use buffers::table::Stored;
-use rows::line::SEQUENCE_RANGE_SIZE;
+use rows::line::{LineSequenceRange, SEQUENCE_RANGE_SIZE};
 use tlv::model::AddressRange;
 use tlv::refusal::Refusal;
 
@@ -57,18 +57,19 @@ impl Conversion<'_> {
     }
 }
 
-// Writes a record for each sequence of the unit's rows that has a range, and returns their number.
+// Writes a record for each sequence of the unit's rows that has a range, and returns their table.
 pub fn collect_sequences(
     main: &[u8],
     rows: UnitRows,
     work: &mut [u8],
     offsets: Stored<u64>,
     base: usize,
-) -> usize
+) -> Stored<LineSequenceRange>
     requires rows_ready { RowsReady main.now work.old (base + sequence_range_size * length (sequences_from (rows_here main.now work.old rows) 0 none)) rows }
     requires offsets_below { offsets.base + offsets.count * offset_record ≤ base }
     requires sequences_fit { base + sequence_range_size * length (sequences_from (rows_here main.now work.old rows) 0 none) ≤ length work.old }
-    ensures { SequencesIn (rows_here main.now work.old rows) work.old work.new offsets.base offsets.count base result }
+    ensures based { result.base ≡ base }
+    ensures sequences_in { SequencesIn (rows_here main.now work.old rows) work.old work.new offsets.base offsets.count base result.count }
 {
     let mut rest = rows;
     let mut k = 0;
@@ -93,5 +94,5 @@ pub fn collect_sequences(
             start = start.or(Some(address));
         }
     }
-    count
+    Stored::new(base, count)
 }

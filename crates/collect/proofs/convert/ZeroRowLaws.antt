@@ -22,10 +22,10 @@ use Rattle.paths.specs.Paths.{file_entry}
 use Rattle.lines.specs.Files.{FileTable, FileIndices, Interned, add_file, intern_entry, intern_file, get, insert_index}
 use Rattle.lines.specs.Lines.{convert_row}
 use Rattle.files.specs.declared.spans.Span.{Span}
-use Rattle.files.specs.Pieces.{span_in, FileUnitIn}
+use Rattle.files.specs.Pieces.{span_in, FileUnitIn, FileSpanIn}
 use Rattle.files.specs.Store.{extent, table_of, FilesIn, Grown}
 use Rattle.files.specs.Indices.{index_of, indices_of, indices_in, Inserted}
-use Rattle.files.specs.Interns.{FileSpanIn, OfUnit, Listed, Interns}
+use Rattle.files.specs.Interns.{OfUnit, Listed, Interns}
 use Rattle.files.proofs.GrownLaws.{table_kept, grown-kept}
 use Rattle.rows.specs.Sizes.{line_size}
 use Rattle.collect.specs.declared.convert.Conversion.{Conversion}

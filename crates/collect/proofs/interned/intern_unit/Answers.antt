@@ -11,4 +11,4 @@ pub returns-in_err-interned : goal.returns-in_err-interned
 returns-in_err-interned c = rw (handed _ _ c.from_residual.ensures.1) (interned-refused c.describe-unit.ensures c.requires.files_in c.requires.unit_room c.describe-unit.auto.work (rw (main-sheet c.args.sheets.main.now c.args.sheets.supplementary.now _ c.describe-unit.ensures.source-is) at c.in_err-interned.ensures))
 
 pub returns : goal.returns
-returns c = interned_done c.describe-unit.ensures c.requires.files_in c.requires.unit_room c.describe-unit.auto.work (rw (main-sheet c.args.sheets.main.now c.args.sheets.supplementary.now _ c.describe-unit.ensures.source-is) at c.in_ok-interned.ensures) (omega arith) c.new.ensures.based c.new.ensures.counted
+returns c = interned_done c.describe-unit.ensures c.requires.files_in c.requires.unit_room c.describe-unit.auto.work (rw (main-sheet c.args.sheets.main.now c.args.sheets.supplementary.now _ c.describe-unit.ensures.source-is) at c.in_ok-interned.ensures) (omega arith)

@@ -1,7 +1,6 @@
 -- `source::row_fault` meets its contract.
-use Rattle.tlv.specs.Refusals.{number_of}
-use Rattle.collect.proofs.UnitRowsLaws.{fault-later}
+use Rattle.collect.proofs.UnitRowsLaws.{fault-first}
 use Rattle.collect.proofs.source.row_fault.Goals as goal
 
-pub returns-in-Ok : goal.returns-in-Ok
-returns-in-Ok c = fault-later (number_of c.args.later) c.in-Ok.ensures
+pub returns : goal.returns
+returns c = rw (c.unwrap_or.ensures, c.err.ensures.value) (fault-first _ _ c.gather_unit_rows.ensures)

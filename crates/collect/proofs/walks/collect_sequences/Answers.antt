@@ -21,5 +21,5 @@ loop-found-preserved-then-found c = elim c.if-not-is_empty.branch [
 pub loop-found-preserved : goal.loop-found-preserved
 loop-found-preserved c = rw c.or-start.ensures (collecting-more c.loop-found.invariant c.in-Some.ensures c.if-found.false)
 
-pub returns : goal.returns
-returns c = collecting-done c.loop-found.invariant c.in_default.ensures
+pub returns-clause-sequences_in : goal.returns-clause-sequences_in
+returns-clause-sequences_in c = rw c.new.ensures.counted (collecting-done c.loop-found.invariant c.in_default.ensures)
