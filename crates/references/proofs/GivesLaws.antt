@@ -84,33 +84,33 @@ units_in-is main supplementary DebugSource.Supplementary = refl
 
 -- the search for the name there
 abbrev absolute : ℕ → List ℕ → List ℕ → OffsetAt → Trail → Counted Named
-absolute depth main supplementary at = resolve_absolute_name depth (dwarf_of main supplementary) (search_source at.input) (search_source at.source) at.target
+absolute depth main supplementary at = resolve_absolute_name depth (dwarf_of main supplementary) (search_source at.input) (search_source at.key.source) at.key.offset
 
 abbrev key_at : OffsetAt → DieKey
-key_at at = record { source = search_source at.source; offset = at.target }
+key_at at = record { source = search_source at.key.source; offset = at.key.offset }
 
 -- an offset that was not followed yet
 module _ {main supplementary w : List ℕ} {x : Tables} {n : ℕ} {at : OffsetAt} {v : Bool} (S : SearchIn main supplementary w x n) (A : Aims main supplementary at)
-    (seen : v ≡ exists (same_key (key_in at.source at.target)) (keys_at w (keys_from x) n)) (new : v ≡ false) where
+    (seen : v ≡ exists (same_key (key_in at.key.source at.key.offset)) (keys_at w (keys_from x) n)) (new : v ≡ false) where
   pub offset-room : TrailIn w x n 1
   offset-room = push_room S A.possible (sym seen ∙ new)
 
-  pub offset-search : {w₁ : List ℕ} → Pushed w w₁ x n (key_in at.source at.target) → length w₁ ≡ length w → SearchIn main supplementary w₁ x (n + 1)
+  pub offset-search : {w₁ : List ℕ} → Pushed w w₁ x n (key_in at.key.source at.key.offset) → length w₁ ≡ length w → SearchIn main supplementary w₁ x (n + 1)
   offset-search P size = push_search S A.possible (sym seen ∙ new) P size
 
 module _ {main supplementary w : List ℕ} {x : Tables} {n : ℕ} {at : OffsetAt} (depth : ℕ) (S : SearchIn main supplementary w x n) (A : Aims main supplementary at) {v : Bool}
-    (seen : v ≡ exists (same_key (key_in at.source at.target)) (keys_at w (keys_from x) n)) where
+    (seen : v ≡ exists (same_key (key_in at.key.source at.key.offset)) (keys_at w (keys_from x) n)) where
   visited : exists (same_key (key_at at)) (keys_at w (keys_from x) n) ≡ v
-  visited = ap (λ (k : DieKey). exists (same_key k) (keys_at w (keys_from x) n)) (key-source at.source at.target) ∙ sym seen
+  visited = ap (λ (k : DieKey). exists (same_key k) (keys_at w (keys_from x) n)) (key-source at.key.source at.key.offset) ∙ sym seen
 
   pub absolute-seen : {a st : ℕ} → a ≤ n + 1 → st ≡ 0 → v ≡ true → Gives (absolute depth main supplementary at) main supplementary x w n a w n a st []
   unfolding resolve_absolute_name follow_absolute is_visited
   absolute-seen few z y = gives_nothing (absolute depth main supplementary at) S few z (rw (visited, y))
 
-  module _ {s : List ℕ} (new : v ≡ false) (is : s ≡ source_in main supplementary at.input) {r : Result (Given EntryPlace) Refusal} (L : Leads s at.target r) where
-    follows : {o : Option CompilationUnit} → unit_containing (units (source_in main supplementary at.input)) at.target ≡ o
+  module _ {s : List ℕ} (new : v ≡ false) (is : s ≡ source_in main supplementary at.input) {r : Result (Given EntryPlace) Refusal} (L : Leads s at.key.offset r) where
+    follows : {o : Option CompilationUnit} → unit_containing (units (source_in main supplementary at.input)) at.key.offset ≡ o
         → (t : Trail) → t.visited ≡ keys_at w (keys_from x) n
-        → follow_absolute (dwarf_of main supplementary) (search_source at.input) (search_source at.source) t at.target ≡ follow_in (search_source at.input) (key_at at) t o
+        → follow_absolute (dwarf_of main supplementary) (search_source at.input) (search_source at.key.source) t at.key.offset ≡ follow_in (search_source at.input) (key_at at) t o
     unfolding follow_absolute is_visited
     follows found t same = rw (same, visited, new, units_in-is main supplementary at.input, found)
 
@@ -125,7 +125,7 @@ module _ {main supplementary w : List ℕ} {x : Tables} {n : ℕ} {at : OffsetAt
     pub absolute-stands : (f : EntryPlace) → r ≡ Ok (Some f) → Stands main supplementary (at_entry at f)
     absolute-stands f to = let leads = rw (is, to) at L in record { known = leads.is.2; sourced = A.sourced }
 
-    module _ {w₁ : List ℕ} (P : Pushed w w₁ x n (key_in at.source at.target)) where
+    module _ {w₁ : List ℕ} (P : Pushed w w₁ x n (key_in at.key.source at.key.offset)) where
       pub absolute-outside : {a st : ℕ} → r ≡ Ok None → length w₁ ≡ length w → a ≤ n + 1 → st ≡ 0
           → Gives (absolute depth main supplementary at) main supplementary x w n a w₁ (n + 1) a st []
       unfolding resolve_absolute_name ◌>>=◌
@@ -133,7 +133,7 @@ module _ {main supplementary w : List ℕ} {x : Tables} {n : ℕ} {at : OffsetAt
           let leads = rw (is, to) at L in
           gives-outside S A.possible (sym seen ∙ new) P (absolute depth main supplementary at) size few z
           (rw (follows leads.is (trail_at w (keys_from x) n a) refl)
-          (ap (λ (key : DieKey). after (visit (trail_at w (keys_from x) n a) key) (done (record { trail = visit (trail_at w (keys_from x) n a) key; name = [] }))) (key-source at.source at.target)))
+          (ap (λ (key : DieKey). after (visit (trail_at w (keys_from x) n a) key) (done (record { trail = visit (trail_at w (keys_from x) n a) key; name = [] }))) (key-source at.key.source at.key.offset)))
 
       pub absolute-at : (f : EntryPlace) → r ≡ Ok (Some f) → {w₂ name : List ℕ} {n₂ a b st : ℕ}
           → Gives (counted_name depth (dwarf_of main supplementary) (place_at main supplementary (at_entry at f))) main supplementary x w₁ (n + 1) (a + 1) w₂ n₂ b st name
@@ -144,7 +144,7 @@ module _ {main supplementary w : List ℕ} {x : Tables} {n : ℕ} {at : OffsetAt
           let inner : Trail → Counted Named = counted_name depth (dwarf_of main supplementary) (place_at main supplementary (at_entry at f)) in
           gives-pushed S A.possible (sym seen ∙ new) P (absolute depth main supplementary at) inner
           (rw (follows leads.is.0 (trail_at w (keys_from x) n a) refl, leads.is.1)
-          (ap (λ (key : DieKey). inner (visit_entry (trail_at w (keys_from x) n a) key)) (key-source at.source at.target)))
+          (ap (λ (key : DieKey). inner (visit_entry (trail_at w (keys_from x) n a) key)) (key-source at.key.source at.key.offset)))
           G
 
 -- ---- an answer ends a search

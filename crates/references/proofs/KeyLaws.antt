@@ -9,8 +9,10 @@ use native.Mathlib.Numerals.{add-one}
 use native.Mathlib.Omega.{arith}
 use lib.Dec.{eqb}
 use lib.ListN.{length}
+use denote.Enum.Declared.{tag_of}
 use borrow.Author.Tests.{eq-eqb, eqb-true}
 use Rattle.tlv.specs.declared.model.DebugSource.{DebugSource}
+use Rattle.tlv.specs.contracts.model.DebugSource.{the_type}
 use Rattle.tlv.specs.Lists.{Any, All, exists}
 use Rattle.tlv.specs.Bytes.{le_at}
 use Rattle.tlv.specs.Fields.{fields}
@@ -29,27 +31,27 @@ use Rattle.references.specs.declared.attributes.Reference.{Reference}
 use Rattle.references.specs.declared.tables.Tables.{Tables}
 use Rattle.references.specs.Search.{DebugSource as Source, DieKey, main_source, supplementary_source, same_source, same_key, attribute}
 use Rattle.references.specs.Tables.{EntryKnown, reference_of}
-use Rattle.references.specs.Keys.{key_of, keys_at, key_in, source_byte, chain_count, keys_from, keys_extent, many, Chained, TrailIn, Chains, Pushed, main_keys, supplementary_keys, entry_keys, unit_keys, possible_keys, PossibleKey, Distinct, KeysIn}
+use Rattle.references.specs.Keys.{key_of, keys_at, key_in, chain_count, keys_from, keys_extent, many, Chained, TrailIn, Chains, Pushed, main_keys, supplementary_keys, entry_keys, unit_keys, possible_keys, PossibleKey, Distinct, KeysIn}
 use Rattle.references.proofs.VisitedLaws.{key_is}
 use Rattle.references.proofs.ChainLaws.{keys_length, keys-clear, chained-clear, many-chained}
 use Rattle.references.proofs.TargetLaws.{first_any, known-unit, known-entry}
 
 -- ---- what stays, and a new key
 
-source_is : (source : DebugSource) (o : ℕ) → record { source = cond (eqb (source_byte source) 0) main_source supplementary_source; offset = o } ≡ key_in source o
+source_is : (source : DebugSource) (o : ℕ) → record { source = cond (eqb (tag_of the_type source) 0) main_source supplementary_source; offset = o } ≡ key_in source o
 source_is DebugSource.Main o = refl
 source_is DebugSource.Supplementary o = refl
 
-module _ {w w₁ w₂ : List ℕ} (x : Tables) (n : ℕ) (source : DebugSource) {base b o : ℕ} (eb : base ≡ keys_from x) (is : b ≡ source_byte source)
-    (A : Wrote w w₁ (base + n * 13) 1 b) (B : Wrote w₁ w₂ (base + n * 13 + 1) 8 o) where
+module _ {w w₁ w₂ : List ℕ} (x : Tables) (n : ℕ) (source : DebugSource) {base o : ℕ} (eb : base ≡ keys_from x)
+    (A : Wrote w w₁ (base + n * 13) 1 (tag_of the_type source)) (B : Wrote w₁ w₂ (base + n * 13 + 1) 8 o) where
   written : Kept w w₂ (keys_from x + n * 13) 9
   written = rw eb at (kept_trans (kept-wide (base + n * 13) 9 A.rest (omega arith) (omega arith)) (kept-wide (base + n * 13) 9 B.rest (omega arith) (omega arith)))
 
   written-key : keys_at w₂ (keys_from x) (n + 1) ≡ key_in source o ∷ keys_at w (keys_from x) n
   unfolding keys_at
   written-key =
-      let first : le_at 1 w₂ (base + n * 13) ≡ source_byte source = le_at-kept 1 (base + n * 13) B.rest (inl (omega arith)) ∙ A.value ∙ is in
-      let key : key_of (chunk w₂ (base + n * 13) 9) ≡ key_in source o = key_is w₂ (base + n * 13) (source_byte source) o first B.value ∙ source_is source o in
+      let first : le_at 1 w₂ (base + n * 13) ≡ tag_of the_type source = le_at-kept 1 (base + n * 13) B.rest (inl (omega arith)) ∙ A.value in
+      let key : key_of (chunk w₂ (base + n * 13) 9) ≡ key_in source o = key_is w₂ (base + n * 13) (tag_of the_type source) o first B.value ∙ source_is source o in
       rw (add-one n, rw eb at key, keys-clear (keys_from x) n (but_one written) (inl (omega arith), tt))
 
   written-rest : Kept w w₂ x.keys (chain_count x * 4 + (n + 1) * 13)

@@ -17,3 +17,4 @@ pub mod WayLaws
 pub mod GivesLaws
 pub mod NameLaws
 pub mod SectionLaws
+pub mod WarningLaws

@@ -3,12 +3,10 @@ use mathlib.Core.Path.{◌≡◌, refl, sym, ap, ◌∙◌}
 use mathlib.Core.Bool.{Bool, true, false, cond, true≢false}
 use mathlib.Core.List.{List, [], ◌∷◌}
 use mathlib.Core.Option.{Option, none, some}
-use Prim.Native.Nat.{ℕ, suc, ◌+◌, ◌-◌, ◌≤◌, ◌<◌}
+use Prim.Native.Nat.{ℕ, suc, ◌+◌, ◌-◌, ◌≤◌}
 use native.Mathlib.Omega.{arith}
-use lib.ListN.{length, drop, get_or}
+use lib.ListN.{length}
 use Rattle.std.specs.Prelude.{◌==◌}
-use Rattle.std.proofs.Common.{add-one, drop-cons}
-use Rattle.std.proofs.lemmas.List.{drop_all}
 use borrow.Author.Tests.{ne_eqb, eqb-true}
 use Rattle.tlv.specs.Outcome.{Outcome, done, ◌>>=◌}
 use Rattle.tlv.specs.Lists.{is_empty}
@@ -20,6 +18,7 @@ use Rattle.access.specs.Places.{unit_here, entry_here}
 use Rattle.files.specs.Pieces.{source_in}
 use Rattle.references.specs.declared.tables.Tables.{Tables}
 use Rattle.references.specs.declared.ways.EntryAt.{EntryAt}
+use Rattle.references.specs.declared.keys.DieKey.{DieKey}
 use Rattle.references.specs.declared.ways.OffsetAt.{OffsetAt}
 use Rattle.std.specs.Prelude.{Ok, Err, Some, None}
 use Rattle.std.specs.declared.option.Option.{Option as Given}
@@ -69,7 +68,7 @@ module _ {main supplementary w : List ℕ} {x : Tables} {n : ℕ} {r : Given Way
   unfolding referred_name
   from_nothing {a} k to few z = gives_nothing (referred_name k main supplementary at name) S few z (rw ((way_is W to).is a))
 
-  module _ (next : EntryAt) (target : ℕ) (to : r ≡ Some (Way.Entry next target)) where
+  module _ (next : EntryAt) (key : DieKey) (to : r ≡ Some (Way.Entry next key)) where
     pub entry-room : TrailIn w x n 1
     entry-room = let N = (way_is W to).is in push_room S N.possible N.new
 
@@ -79,7 +78,7 @@ module _ {main supplementary w : List ℕ} {x : Tables} {n : ℕ} {r : Given Way
     pub entry-deeper : next.left ≡ at.left - 1
     entry-deeper = (way_is W to).is.deeper
 
-    module _ {w₁ : List ℕ} (P : Pushed w w₁ x n (key_in next.source target)) where
+    module _ {w₁ : List ℕ} (P : Pushed w w₁ x n (key_in key.source key.offset)) where
       pub entry-search : length w₁ ≡ length w → SearchIn main supplementary w₁ x (n + 1)
       entry-search size = let N = (way_is W to).is in push_search S N.possible N.new P size
 
@@ -93,13 +92,13 @@ module _ {main supplementary w : List ℕ} {x : Tables} {n : ℕ} {r : Given Way
           (counted_name (at.left - 1) (dwarf_of main supplementary) (place_at main supplementary next)) (rw (N.is a)) (rw N.deeper at G)
 
   pub from-offset : (next : OffsetAt) → r ≡ Some (Way.Offset next) → {w₂ bytes : List ℕ} {n₂ a b st : ℕ}
-      → Gives (resolve_absolute_name next.left (dwarf_of main supplementary) (search_source next.input) (search_source next.source) next.target) main supplementary x w n a w₂ n₂ b st bytes
+      → Gives (resolve_absolute_name next.left (dwarf_of main supplementary) (search_source next.input) (search_source next.key.source) next.key.offset) main supplementary x w n a w₂ n₂ b st bytes
       → Gives (referred_name (at.left - 1) main supplementary at name) main supplementary x w n a w₂ n₂ b st bytes
   unfolding referred_name resolve_absolute_name
   from-offset next to {a = a} G =
       let N = (way_is W to).is in
       gives_after (referred_name (at.left - 1) main supplementary at name)
-      (resolve_absolute_name (at.left - 1) (dwarf_of main supplementary) (search_source next.input) (search_source next.source) next.target)
+      (resolve_absolute_name (at.left - 1) (dwarf_of main supplementary) (search_source next.input) (search_source next.key.source) next.key.offset)
       (kept_refl w x.keys (keys_extent main supplementary x)) (rw (N.is a)) (rw N.deeper at G)
 
 -- ---- the own name
@@ -202,18 +201,12 @@ unfolding is_answer
 refused-answer st bytes h = rw (ne_eqb st 0 h)
 
 module _ {main supplementary w₀ w : List ℕ} {x : Tables} {at : EntryAt} {n₀ a₀ n a : ℕ} where
-  -- the reference that is next
-  pub going_next : (names : List ℕ) (i d : ℕ) → Going main supplementary x at w₀ n₀ a₀ w n a (drop i names) → i < length names
-      → Going main supplementary x at w₀ n₀ a₀ w n a (get_or names i d ∷ drop (i + 1) names)
-  going_next names i d G within = let e : drop i names ≡ get_or names i d ∷ drop (i + 1) names = rw (add-one, drop-cons names i d within) in rw e at G
-
   -- no reference is left
-  pub inner_done : (names : List ℕ) (i : ℕ) → Going main supplementary x at w₀ n₀ a₀ w n a (drop i names) → length names ≤ i
-      → Gives (inner main supplementary at) main supplementary x w₀ n₀ a₀ w n a 0 []
+  pub inner_done : Going main supplementary x at w₀ n₀ a₀ w n a [] → Gives (inner main supplementary at) main supplementary x w₀ n₀ a₀ w n a 0 []
   unfolding counted_referenced_name
-  inner_done names i G over =
+  inner_done G =
       let g : Trail → Counted Named = λ t. after t (done (record { trail = t; name = [] })) in
-      gives_after (inner main supplementary at) g G.rest (G.goes ∙ rw (drop_all i names over)) (gives_nothing g G.ready G.few refl refl)
+      gives_after (inner main supplementary at) g G.rest G.goes (gives_nothing g G.ready G.few refl refl)
 
 -- the last reference's answer is the search's
 pub last-turn : {main supplementary w₀ w w₁ bytes : List ℕ} {x : Tables} {at : EntryAt} {n₀ a₀ n a n₁ b st name : ℕ} → Going main supplementary x at w₀ n₀ a₀ w n a (name ∷ [])
@@ -223,7 +216,7 @@ last-turn {main} {supplementary} {w₀} {w} {w₁} {bytes} {x} {at} {n₀} {a₀
   where
     go : (v : Bool) → v ≡ is_answer st bytes → Gives (inner main supplementary at) main supplementary x w₀ n₀ a₀ w₁ n₁ b st bytes
     go true e = turn-ends G T e refl
-    go false e = let h = no_answer st bytes (sym e) in rw (h.0, h.1) (inner_done [] 0 (turn-goes G T e refl same) (omega arith))
+    go false e = let h = no_answer st bytes (sym e) in rw (h.0, h.1) (inner_done (turn-goes G T e refl same))
 
 -- ---- the searches that start at an entry of the main sheet
 

@@ -6,10 +6,8 @@ use mathlib.Core.List.{List, ◌∷◌}
 use Prim.Native.Nat.{ℕ, zero, suc, ◌+◌, ◌-◌, ◌*◌, ◌<◌}
 use native.Mathlib.Omega.{arith}
 use lib.Dec.{eqb}
-use denote.Enum.Bare.{sameb}
-use borrow.Author.Tests.{eq-eqb, ne_eqb}
+use borrow.Author.Tests.{ne_eqb}
 use Rattle.tlv.specs.declared.model.DebugSource.{DebugSource}
-use Rattle.tlv.specs.contracts.model.DebugSource.{the_type}
 use Rattle.tlv.specs.Sources.{source_of_byte}
 use Rattle.tlv.specs.Lists.{exists}
 use Rattle.tlv.specs.Bytes.{le_at}
@@ -28,6 +26,14 @@ key_is w p b o eb eo = λ i. record {
   offset = (le_at-chunk 8 w p 9 1 (omega arith) ∙ eo) i;
 }
 
+-- as they are read
+read-source : (c : Bool) (o : ℕ) → key_in (cond c DebugSource.Main DebugSource.Supplementary) o ≡ record { source = cond c main_source supplementary_source; offset = o }
+read-source true o = refl
+read-source false o = refl
+
+pub key-read : (w : List ℕ) (p : ℕ) {b o : ℕ} {source : DebugSource} → b ≡ le_at 1 w p → source ≡ source_of_byte b → o ≡ le_at 8 w (p + 1) → key_in source o ≡ key_of (chunk w p 9)
+key-read w p {b} {o} eb is eo = rw (is, key_is w p b o (sym eb) (sym eo)) (read-source (eqb b 0) o)
+
 and_no : (b : Bool) → false ≡ (b && false)
 and_no true = refl
 and_no false = refl
@@ -36,24 +42,9 @@ pub offset-in : (source : DebugSource) (o : ℕ) → (key_in source o).offset �
 offset-in DebugSource.Main o = refl
 offset-in DebugSource.Supplementary o = refl
 
+-- another offset is another key
 pub offsets-differ : (a b : DieKey) → (a.offset ≡ b.offset → ⊥) → false ≡ same_key a b
 offsets-differ a b h = rw (ne_eqb a.offset b.offset h) (and_no (same_source a.source b.source))
-
-module _ (w : List ℕ) (p : ℕ) (source : DebugSource) (offset v : ℕ) (ev : v ≡ le_at 8 w (p + 1)) where
-  -- another offset is another key
-  pub key-other : (v ≡ offset → ⊥) → false ≡ same_key (key_in source offset) (key_of (chunk w p 9))
-  key-other h = rw (key_is w p (le_at 1 w p) v refl (sym ev)) (offsets-differ (key_in source offset) (record { source = cond (eqb (le_at 1 w p) 0) main_source supplementary_source; offset = v }) (λ e. h (sym e ∙ offset-in source offset)))
-
-  module _ (b : ℕ) (same : v ≡ offset) (eb : b ≡ le_at 1 w p) where
-    is-source : (source : DebugSource) (c : Bool) → sameb the_type (cond c DebugSource.Main DebugSource.Supplementary) source ≡ (same_source (key_in source offset).source (cond c main_source supplementary_source) && true)
-    is-source DebugSource.Main true = refl
-    is-source DebugSource.Main false = refl
-    is-source DebugSource.Supplementary true = refl
-    is-source DebugSource.Supplementary false = refl
-
-    -- the byte that was read is the source's
-    pub key_source : {r : DebugSource} {t : Bool} → r ≡ source_of_byte b → t ≡ sameb the_type r source → t ≡ same_key (key_in source offset) (key_of (chunk w p 9))
-    key_source is e = e ∙ rw (key_is w p b v (sym eb) (sym ev), is, eq-eqb (key_in source offset).offset v (offset-in source offset ∙ sym same)) (is-source source (eqb b 0))
 
 -- ---- whether a key is among those at base
 

@@ -1,13 +1,15 @@
 -- The ways that a reference leads: to an offset of the own unit, to an offset of the own section, and from the main sheet into the supplementary one.
 use mathlib.Core.Path.{◌≡◌, refl, sym, ap, ◌∙◌}
-use mathlib.Core.Bool.{Bool, true, false, cond}
+use mathlib.Core.Bool.{Bool, true, false, cond, true≢false}
 use mathlib.Core.List.{List, [], ◌∷◌}
 use mathlib.Core.Option.{Option, none, some}
 use Prim.Native.Nat.{ℕ, ◌+◌, ◌-◌, ◌^◌}
 use native.Mathlib.Omega.{arith}
 use lib.Dec.{eqb, ltb}
 use lib.ListN.{length, length-map}
+use denote.Enum.Bare.{sameb}
 use Rattle.tlv.specs.declared.model.DebugSource.{DebugSource}
+use Rattle.tlv.specs.contracts.model.DebugSource.{the_type}
 use Rattle.tlv.specs.Outcome.{Outcome, refused, done, ◌>>=◌}
 use Rattle.tlv.specs.Lists.{Any, exists}
 use Rattle.tlv.specs.Fields.{fields}
@@ -43,7 +45,7 @@ pub ways_as : {f g : Trail → Outcome Followed} {main supplementary w : List �
     → ((t : Trail) → f t ≡ g t) → Ways g main supplementary w x n left r → Ways f main supplementary w x n left r
 ways_as (Ok None) e W = record { is = λ k. e _ ∙ W.is k }
 ways_as (Err r) e W = record { is = λ k. e _ ∙ W.is k }
-ways_as (Ok (Some (Way.Entry next target))) e W =
+ways_as (Ok (Some (Way.Entry next key))) e W =
     let N = W.is in record { is = record { is = λ k. e _ ∙ N.is k; stands = N.stands; deeper = N.deeper; possible = N.possible; new = N.new } }
 ways_as (Ok (Some (Way.Offset next))) e W = let N = W.is in record { is = record { is = λ k. e _ ∙ N.is k; aims = N.aims; deeper = N.deeper } }
 
@@ -96,7 +98,7 @@ module _ {main supplementary w s : List ℕ} {x : Tables} {n : ℕ} {at : EntryA
 
         pub way-entry : {p : ℕ} → LeadsIn s at.entry.unit o (Some p) → PossibleKey main supplementary (key_in at.source ((unit_here (source_in main supplementary at.input) at.entry.unit).offset + o))
             → Ways (follow_unit_from main supplementary at o) main supplementary w x n at.left
-            (Ok (Some (Way.Entry (record { input = at.input; source = at.source; entry = record { place = p; unit = at.entry.unit }; left = at.left - 1 }) target)))
+            (Ok (Some (Way.Entry (record { input = at.input; source = at.source; entry = record { place = p; unit = at.entry.unit }; left = at.left - 1 }) (record { source = at.source; offset = target }))))
         unfolding ◌>>=◌
         way-entry L possible =
             let leads = rw is at L.is in
@@ -125,6 +127,15 @@ follow-by d p t (some a) =
     either (eqb a.kind 4) (λ y. rw y) (λ n4.
     either (eqb a.kind 5) (λ y. rw (n4, y)) (λ n5.
     either (eqb a.kind 6) (λ y. rw (n4, n5, y)) (λ n6. rw (n4, n5, n6))))
+
+-- which sheet a reference stands in, by the test
+is-supplementary : (input : DebugSource) {b : Bool} → b ≡ true → b ≡ sameb the_type input DebugSource.Supplementary → input ≡ DebugSource.Supplementary
+is-supplementary DebugSource.Main y e = absurd (true≢false (sym y ∙ e))
+is-supplementary DebugSource.Supplementary y e = refl
+
+is-main : (input : DebugSource) {b : Bool} → b ≡ false → b ≡ sameb the_type input DebugSource.Supplementary → input ≡ DebugSource.Main
+is-main DebugSource.Main y e = refl
+is-main DebugSource.Supplementary y e = absurd (true≢false (sym e ∙ y))
 
 -- a supplementary reference
 from-main : (d : Dwarf) (us : List CompilationUnit) (t : Trail) (o : ℕ) (input : DebugSource) → input ≡ DebugSource.Main → (length us ≡ 0 → ⊥)
@@ -156,7 +167,7 @@ module _ {main supplementary w s : List ℕ} {x : Tables} {n : ℕ} {at : EntryA
 
   pub way_section : (o : ℕ) → r ≡ Some (Reference.Section o)
       → Ways (follow_from main supplementary at name) main supplementary w x n at.left
-      (Ok (Some (Way.Offset (record { input = at.input; source = DebugSource.Main; target = o; left = at.left - 1 }))))
+      (Ok (Some (Way.Offset (record { input = at.input; key = record { source = DebugSource.Main; offset = o }; left = at.left - 1 }))))
   way_section o to = record {
     is = record {
       is = λ k. followed (Some (Reference.Section o)) to _;
@@ -185,13 +196,13 @@ module _ {main supplementary w s : List ℕ} {x : Tables} {n : ℕ} {at : EntryA
     pub way_no-units : x.supplementary.units.count ≡ 0 → Ways (follow_from main supplementary at name) main supplementary w x n at.left (Ok None)
     way_no-units z = record { is = λ k. followed (Some (Reference.Supplementary o)) to _ ∙ from-none (dwarf_of main supplementary) (units supplementary) _ o at.input (unit-number ∙ z) }
 
-    pub way-inside : at.input ≡ DebugSource.Supplementary → Ways (follow_from main supplementary at name) main supplementary w x n at.left (Ok None)
-    way-inside z = record { is = λ k. followed (Some (Reference.Supplementary o)) to _ ∙ rw z }
+    pub way-inside : {b : Bool} → b ≡ true → b ≡ sameb the_type at.input DebugSource.Supplementary → Ways (follow_from main supplementary at name) main supplementary w x n at.left (Ok None)
+    way-inside y same = record { is = λ k. followed (Some (Reference.Supplementary o)) to _ ∙ rw (is-supplementary at.input y same) }
 
-    pub way-supplementary : at.input ≡ DebugSource.Main → (x.supplementary.units.count ≡ 0 → ⊥)
+    pub way-supplementary : {b : Bool} → b ≡ false → b ≡ sameb the_type at.input DebugSource.Supplementary → (x.supplementary.units.count ≡ 0 → ⊥)
         → Ways (follow_from main supplementary at name) main supplementary w x n at.left
-        (Ok (Some (Way.Offset (record { input = DebugSource.Supplementary; source = DebugSource.Supplementary; target = o; left = at.left - 1 }))))
-    way-supplementary z some-units = record {
+        (Ok (Some (Way.Offset (record { input = DebugSource.Supplementary; key = record { source = DebugSource.Supplementary; offset = o }; left = at.left - 1 }))))
+    way-supplementary y same some-units = let z = is-main at.input y same in record {
       is = record {
         is = λ k. followed (Some (Reference.Supplementary o)) to _ ∙ from-main (dwarf_of main supplementary) (units supplementary) _ o at.input z (λ none. some-units (sym unit-number ∙ none));
         aims = record { possible = possible-main-supplementary name S.main-index.accepted (rw z at A.known) (rw z at (reference-is to)); sourced = tt };

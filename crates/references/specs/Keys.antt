@@ -28,11 +28,6 @@ abbrev pub key_in : DebugSource → ℕ → DieKey
 key_in DebugSource.Main o = record { source = main_source; offset = o }
 key_in DebugSource.Supplementary o = record { source = supplementary_source; offset = o }
 
--- the byte that a source is written as
-abbrev pub source_byte : DebugSource → ℕ
-source_byte DebugSource.Main = 0
-source_byte DebugSource.Supplementary = 1
-
 -- ---- the chains of a hash table over the keys: the heads stand first, 4 bytes each, and the records behind them
 
 abbrev pub chain_count : Tables → ℕ

@@ -3,3 +3,4 @@ pub mod Reads
 pub mod Tables
 pub mod Keys
 pub mod Names
+pub mod Warnings

@@ -16,6 +16,7 @@ use Rattle.access.specs.Index.{entry_record}
 use Rattle.files.specs.Pieces.{source_in}
 use Rattle.references.specs.declared.tables.Index.{Index}
 use Rattle.references.specs.declared.tables.Tables.{Tables}
+use Rattle.references.specs.declared.keys.DieKey.{DieKey}
 use Rattle.references.specs.declared.ways.EntryAt.{EntryAt}
 use Rattle.references.specs.declared.ways.OffsetAt.{OffsetAt}
 use Rattle.references.specs.declared.ways.Way.{Way}
@@ -55,7 +56,7 @@ start_at e = record { input = DebugSource.Main; source = DebugSource.Main; entry
 
 -- at the entry of an offset that it followed
 abbrev pub at_entry : OffsetAt → EntryPlace → EntryAt
-at_entry at e = record { input = at.input; source = at.source; entry = e; left = at.left }
+at_entry at e = record { input = at.input; source = at.key.source; entry = e; left = at.left }
 
 -- entries of the main sheet are remembered under no other source
 abbrev pub Sourced : DebugSource → DebugSource → Type 0
@@ -68,10 +69,10 @@ pub record Stands (main supplementary : List ℕ) (at : EntryAt) : Type 0 where
   pub known : EntryKnown (source_in main supplementary at.input) at.entry.unit at.entry.place
   pub sourced : Sourced at.input at.source
 
--- a search can come to follow that offset
+-- a search can come to follow that target
 pub record Aims (main supplementary : List ℕ) (at : OffsetAt) : Type 0 where
-  pub possible : PossibleKey main supplementary (key_in at.source at.target)
-  pub sourced : Sourced at.input at.source
+  pub possible : PossibleKey main supplementary (key_in at.key.source at.key.offset)
+  pub sourced : Sourced at.input at.key.source
 
 -- the followed targets that stand in w
 abbrev pub trail_at : List ℕ → ℕ → ℕ → ℕ → Trail
@@ -99,27 +100,30 @@ unfoldable pub follow_from : List ℕ → List ℕ → EntryAt → ℕ → Trail
 follow_from main supplementary at name t =
     follow (dwarf_of main supplementary) (place_at main supplementary at) t (attribute (place_at main supplementary at).entry name)
 
--- at an entry of the same unit, which was not followed yet, with an offset of the section
+-- at an entry of the same unit, which was not followed yet
 pub record EntryNext (f : Trail → Outcome Followed) (main supplementary w : List ℕ) (x : Tables) (n left : ℕ) (next : EntryAt)
-    (target : ℕ) : Type 0 where
+    (key : DieKey) : Type 0 where
   pub is : (k : ℕ) → f (trail_at w (keys_from x) n k)
-      ≡ done (record { trail = visit_entry (trail_at w (keys_from x) n k) (key_in next.source target); target = same_unit (place_at main supplementary next) })
+      ≡ done (record {
+        trail = visit_entry (trail_at w (keys_from x) n k) (key_in key.source key.offset);
+        target = same_unit (place_at main supplementary next);
+      })
   pub stands : Stands main supplementary next
   pub deeper : next.left ≡ left - 1
-  pub possible : PossibleKey main supplementary (key_in next.source target)
-  pub new : exists (same_key (key_in next.source target)) (keys_at w (keys_from x) n) ≡ false
+  pub possible : PossibleKey main supplementary (key_in key.source key.offset)
+  pub new : exists (same_key (key_in key.source key.offset)) (keys_at w (keys_from x) n) ≡ false
 
 -- at an offset of a section
 pub record OffsetNext (f : Trail → Outcome Followed) (main supplementary w : List ℕ) (x : Tables) (n left : ℕ) (next : OffsetAt) : Type 0 where
   pub is : (k : ℕ) → f (trail_at w (keys_from x) n k)
-      ≡ follow_absolute (dwarf_of main supplementary) (search_source next.input) (search_source next.source) (trail_at w (keys_from x) n k) next.target
+      ≡ follow_absolute (dwarf_of main supplementary) (search_source next.input) (search_source next.key.source) (trail_at w (keys_from x) n k) next.key.offset
   pub aims : Aims main supplementary next
   pub deeper : next.left ≡ left - 1
 
 abbrev pub WayIs : (Trail → Outcome Followed) → List ℕ → List ℕ → List ℕ → Tables → ℕ → ℕ → Result (Given Way) Refusal → Type 0
 WayIs f main supplementary w x n left (Ok None) = (k : ℕ) → f (trail_at w (keys_from x) n k) ≡ followed_nothing (trail_at w (keys_from x) n k)
 WayIs f main supplementary w x n left (Err e) = (k : ℕ) → f (trail_at w (keys_from x) n k) ≡ refused (number_of e)
-WayIs f main supplementary w x n left (Ok (Some (Way.Entry next target))) = EntryNext f main supplementary w x n left next target
+WayIs f main supplementary w x n left (Ok (Some (Way.Entry next key))) = EntryNext f main supplementary w x n left next key
 WayIs f main supplementary w x n left (Ok (Some (Way.Offset next))) = OffsetNext f main supplementary w x n left next
 
 pub record Ways (f : Trail → Outcome Followed) (main supplementary w : List ℕ) (x : Tables) (n left : ℕ) (r : Result (Given Way) Refusal) : Type 0 where

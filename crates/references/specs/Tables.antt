@@ -23,8 +23,8 @@ use Rattle.references.specs.Search.{attribute, if_empty, name_from, own_name, na
 pub record IndexIn (s w : List ℕ) (x : Index) : Type 0 where
   pub number : ℕ
   pub accepted : Accepts s number
-  pub units : records unit_of24 24 w x.units.base x.units.count ≡ map (indexed_unit s) (unit_places 0 (fields s))
-  pub entries : records indexed_of 16 w x.entries.base x.entries.count ≡ entry_index 0 0 0 (fields s)
+  pub units : records unit_of24 unit_record w x.units.base x.units.count ≡ map (indexed_unit s) (unit_places 0 (fields s))
+  pub entries : records indexed_of entry_record w x.entries.base x.entries.count ≡ entry_index 0 0 0 (fields s)
   pub units-within : x.units.base + unit_record * x.units.count ≤ length w
   pub entries-within : x.entries.base + entry_record * x.entries.count ≤ length w
 

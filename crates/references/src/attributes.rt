@@ -22,6 +22,7 @@ pub enum Reference {
 }
 
 // The value of the attribute of a name of an entry.
+// Stays with sheet, entry and name apart, as those below: a struct of them would be made for each attribute that is asked for.
 pub fn attribute_at(s: &[u8], entry: EntryPlace, name: u16) -> Option<Value>
     requires placed { Placed s.now 0 }
     requires entry_known { EntryKnown s.now entry.unit entry.place }
@@ -31,6 +32,7 @@ pub fn attribute_at(s: &[u8], entry: EntryPlace, name: u16) -> Option<Value>
 }
 
 // The reference that a value is.
+// Stays apart from file_number_in, line_number_in, dies' address_in and subprograms' sequence_in: each takes other kinds of a value.
 fn reference_of(v: Option<Value>) -> Option<Reference>
     ensures { result ≡ reference_in v }
 {

@@ -3,7 +3,7 @@ ghost use Rattle.std.specs.Prelude.{◌≡◌, true, ◌+◌, ◌*◌, ◌≤◌
 ghost use Rattle.tlv.specs.Lists.{exists};
 ghost use Rattle.buffers.specs.Table.{chunk};
 ghost use Rattle.references.specs.Search.{same_key};
-ghost use Rattle.references.specs.Keys.{key_of, keys_at, key_in, source_byte, chain_count, keys_from, chain_of, many, Chained, TrailIn, Chains, Pushed};
+ghost use Rattle.references.specs.Keys.{key_of, keys_at, key_in, chain_count, keys_from, chain_of, many, Chained, TrailIn, Chains, Pushed};
 ghost use Rattle.references.specs.Keys.{key_record};
 
 use crate::tables::Tables;
@@ -12,10 +12,14 @@ use buffers::table::{Stored, fill_zero};
 use tlv::bytes::Number;
 use tlv::model::DebugSource;
 
-// Bytes of a record, and of the head of a chain.
-const KEY_RECORD: usize = 13;
+// Where a record's offset and link stand, behind its source; bytes of a record, and of the head of a chain.
+const KEY_OFFSET: usize = 1;
 
-const CHAIN_HEAD: usize = 4;
+const KEY_LINK: usize = KEY_OFFSET + 8;
+
+pub const KEY_RECORD: usize = KEY_LINK + 4;
+
+pub const CHAIN_HEAD: usize = 4;
 
 // So many targets are found as fast by a look at each.
 const FEW_KEYS: usize = 64;
@@ -31,28 +35,31 @@ const HASH_FACTOR: u64 = 2654435761;
 const HASH_DROPPED: u64 = 65536;
 
 // A target that a search follows: the source that it is remembered under, and its offset in the section.
-#[derive(Clone, Copy, Debug)]
-pub struct Key {
+#[derive(Clone, Copy, Debug, PartialEq, Eq)]
+pub struct DieKey {
     pub source: DebugSource,
     pub offset: u64,
 }
 
+impl DieKey {
+    // The target at a place.
+    fn read(work: &[u8], p: usize) -> DieKey
+        requires { p + 9 ≤ length work.now }
+        ensures { key_in result.source result.offset ≡ key_of (chunk work.now p 9) }
+    {
+        DieKey {
+            source: DebugSource::from(u8::read(work, p)),
+            offset: u64::read(work, p + KEY_OFFSET),
+        }
+    }
+}
+
 // Whether the key at place p is a target.
-fn is_key(work: &[u8], p: usize, key: Key) -> bool
+fn is_key(work: &[u8], p: usize, key: DieKey) -> bool
     requires { p + 9 ≤ length work.now }
     ensures { result ≡ same_key (key_in key.source key.offset) (key_of (chunk work.now p 9)) }
 {
-    if u64::read(work, p + 1) != key.offset {
-        return false;
-    }
-    DebugSource::from(u8::read(work, p)) == key.source
-}
-
-// The byte that a source is written as.
-fn source_byte(source: DebugSource) -> u8
-    ensures { result ≡ source_byte source }
-{
-    source as u8
+    DieKey::read(work, p) == key
 }
 
 // Whether n targets are kept in chains.
@@ -89,7 +96,7 @@ fn keys_from(x: Tables) -> usize
 
 // Whether a target is among some, by a look at each.
 // Stays apart from rows' first_covering: this asks by `any` whether one is there, that by `find` which is the first.
-fn is_scanned(work: &[u8], keys: Stored<Key>, key: Key) -> bool
+fn is_scanned(work: &[u8], keys: Stored<DieKey>, key: DieKey) -> bool
     requires { keys.base + keys.count * key_record ≤ length work.now }
     ensures { result ≡ exists (same_key (key_in key.source key.offset)) (keys_at work.now keys.base keys.count) }
 {
@@ -101,7 +108,8 @@ fn is_scanned(work: &[u8], keys: Stored<Key>, key: Key) -> bool
 }
 
 // Whether a target is among the n that were followed: a chain leads from newer to older ones.
-pub fn is_visited(work: &[u8], x: Tables, n: usize, key: Key) -> bool
+// Stays beside files' find_file, another table of chains: one walk would take where chains and links stand, a record's size, and a test.
+pub fn is_visited(work: &[u8], x: Tables, n: usize, key: DieKey) -> bool
     requires { TrailIn work.now x n 0 }
     ensures { result ≡ exists (same_key (key_in key.source key.offset)) (keys_at work.now (keys_from x.entry) n) }
 {
@@ -116,7 +124,7 @@ pub fn is_visited(work: &[u8], x: Tables, n: usize, key: Key) -> bool
         if is_key(work, p, key) {
             return true;
         }
-        k = u32::read(work, p + 9) as usize;
+        k = u32::read(work, p + KEY_LINK) as usize;
     }
     false
 }
@@ -130,10 +138,10 @@ fn chain_key(work: &mut [u8], x: Tables, i: usize)
 {
     let chains = chain_count(x);
     let p = keys_from(x) + i * KEY_RECORD;
-    let c = chain_of(chains, u64::read(work, p + 1));
+    let c = chain_of(chains, u64::read(work, p + KEY_OFFSET));
     let head = x.keys + c * CHAIN_HEAD;
     let link = u32::read(work, head);
-    link.write(work, p + 9);
+    link.write(work, p + KEY_LINK);
     ((i + 1) as u32).write(work, head);
 }
 
@@ -151,13 +159,13 @@ fn chain_keys(work: &mut [u8], x: Tables, n: usize)
 }
 
 // Writes a target behind n others.
-pub fn push_key(work: &mut [u8], x: Tables, n: usize, key: Key)
+pub fn push_key(work: &mut [u8], x: Tables, n: usize, key: DieKey)
     requires { TrailIn work.old x n 1 }
     ensures { Pushed work.old work.new x.entry n (key_in key.source key.offset) }
 {
     let p = keys_from(x) + n * KEY_RECORD;
-    source_byte(key.source).write(work, p);
-    key.offset.write(work, p + 1);
+    (key.source as u8).write(work, p);
+    key.offset.write(work, p + KEY_OFFSET);
     if !is_many(n + 1) {
         return;
     }

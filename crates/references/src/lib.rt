@@ -7,4 +7,5 @@ pub mod names;
 pub mod reference_names;
 pub mod tables;
 pub mod trails;
+pub mod warnings;
 pub mod ways;

@@ -9,7 +9,7 @@ ghost use Rattle.references.specs.Names.{dwarf_of, search_source, place_at, Stan
 ghost use Rattle.references.specs.Names.{referred_name, resolve_absolute_name, start_at, Resolved};
 
 use crate::attributes::own_name;
-use crate::keys::{Key, is_visited, push_key};
+use crate::keys::{is_visited, push_key};
 use crate::tables::Tables;
 use crate::trails::{Counted, Trail};
 use crate::ways::{EntryAt, OffsetAt, Way, way_of};
@@ -33,6 +33,7 @@ pub fn found_name<'a>(name: &'a [u8]) -> Option<&'a [u8]>
 
 // The name of an entry: its own, or the first that its references lead to; no bytes are none.
 // Stays two calls, the second the answer: a loop over both names has the same call, test and return, and a line more for no name.
+// Stays with work, trail and tables apart, as the two below: is_visited, way_of and push_key take the trail's count alone, and work to read or to write.
 #[cycle(referred_name_resolve_absolute_name_resolve_name_inner)]
 pub fn resolve_name_inner<'a>(
     work: &mut [u8],
@@ -79,11 +80,7 @@ pub fn referred_name<'a>(
 {
     match way_of(work, x, trail.count, at, name)? {
         None => Ok(&x.sheets.main[..0]),
-        Some(Way::Entry(next, target)) => {
-            let key = Key {
-                source: next.source,
-                offset: target,
-            };
+        Some(Way::Entry(next, key)) => {
             push_key(work, x, trail.count, key);
             *trail = trail.with_entry();
             resolve_name_inner(work, trail, x, next)
@@ -104,21 +101,17 @@ pub fn resolve_absolute_name<'a>(
     requires aims { Aims x.sheets.main.now x.sheets.supplementary.now at }
     ensures { let main = x.entry.sheets.main.now in let supplementary = x.entry.sheets.supplementary.now in
         Gives (resolve_absolute_name at.left (dwarf_of main supplementary) (search_source at.input)
-        (search_source at.source) at.target) main supplementary
+        (search_source at.key.source) at.key.offset) main supplementary
         x.entry work.old trail.old.count trail.old.reads work.new trail.new.count trail.new.reads
         (status_of result) (bytes_of result) }
 {
-    let key = Key {
-        source: at.source,
-        offset: at.target,
-    };
-    if is_visited(work, x, trail.count, key) {
+    if is_visited(work, x, trail.count, at.key) {
         return Ok(&x.sheets.main[..0]);
     }
     let found = x
         .index(at.input)
-        .target_at(x.sheets.of(at.input), work, at.target)?;
-    push_key(work, x, trail.count, key);
+        .target_at(x.sheets.of(at.input), work, at.key.offset)?;
+    push_key(work, x, trail.count, at.key);
     let Some(entry) = found else {
         *trail = trail.with_target();
         return Ok(&x.sheets.main[..0]);

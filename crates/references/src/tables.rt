@@ -70,7 +70,7 @@ pub struct Tables<'a> {
     pub keys: usize,
 }
 
-impl<'a> Tables<'a> {
+impl Tables<'_> {
     // The tables of the sheet of a source.
     pub fn index(self, source: DebugSource) -> Index
         ensures { result ≡ index_in self.entry source }

@@ -31,11 +31,9 @@ impl Trail {
         ensures one_followed { result.count ≡ self.count + 1 }
         ensures none_read { result.reads ≡ self.reads }
     {
-        // Stays field by field, as below: a struct with a ghost field takes no `..self`.
-        Trail {
-            count: self.count + 1,
-            reads: self.reads,
-        }
+        let mut trail = self;
+        trail.count += 1;
+        trail
     }
 
     // A target was followed, and its entry read.
@@ -44,9 +42,8 @@ impl Trail {
         ensures one_followed { result.count ≡ self.count + 1 }
         ensures one_read { result.reads ≡ self.reads + 1 }
     {
-        Trail {
-            count: self.count + 1,
-            reads: self.reads + 1,
-        }
+        let mut trail = self.with_target();
+        trail.reads += 1;
+        trail
     }
 }

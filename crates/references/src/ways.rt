@@ -9,7 +9,7 @@ ghost use Rattle.references.specs.Keys.{key_in, PossibleKey};
 ghost use Rattle.references.specs.Names.{at_entry, Stands, SearchIn, follow_unit_from, follow_from, Ways};
 
 use crate::attributes::{Reference, reference_at};
-use crate::keys::{Key, is_visited};
+use crate::keys::{DieKey, is_visited};
 use crate::tables::Tables;
 use access::index::EntryPlace;
 use tlv::bytes::Number;
@@ -19,6 +19,8 @@ use tlv::tags::UNIT_OFFSET;
 
 // Where a search stands: an entry of a sheet, the source that its unit's targets are remembered under, and
 // how many entries in a row are left to look at, this one included.
+// Stays beside OffsetAt, which has a target in place of source and entry: of one type over both, to_entry would still set each field, since
+// no `..self` goes from the one to the other.
 #[derive(Clone, Copy, Debug)]
 pub struct EntryAt {
     pub input: DebugSource,
@@ -27,12 +29,11 @@ pub struct EntryAt {
     pub left: u8,
 }
 
-// An offset of a section that a search is to follow, the source that it is remembered under, and how many entries are left.
+// A target that a search is to follow in a sheet, and how many entries are left.
 #[derive(Clone, Copy, Debug)]
 pub struct OffsetAt {
     pub input: DebugSource,
-    pub source: DebugSource,
-    pub target: u64,
+    pub key: DieKey,
     pub left: u8,
 }
 
@@ -43,17 +44,17 @@ impl OffsetAt {
     {
         EntryAt {
             input: self.input,
-            source: self.source,
+            source: self.key.source,
             entry,
             left: self.left,
         }
     }
 }
 
-// How a search goes on from a reference: at an entry of the same unit, by its offset in the section; or at an offset of a section.
+// How a search goes on from a reference: at an entry of the same unit, beside the target that it is; or to a target that is still sought.
 #[derive(Clone, Copy, Debug)]
 pub enum Way {
-    Entry(EntryAt, u64),
+    Entry(EntryAt, DieKey),
     Offset(OffsetAt),
 }
 
@@ -69,9 +70,10 @@ pub fn absolute_entry_offset(s: &[u8], unit: usize, offset: u64) -> Result<u64, 
 }
 
 // How a search goes on from a reference to an offset of its own unit; none where it was followed already.
-fn unit_way<'a>(
+// Stays with work, tables and a count apart, as way_of and keys' is_visited: push_key writes the slice and takes the other two.
+fn unit_way(
     work: &[u8],
-    x: Tables<'a>,
+    x: Tables,
     n: usize,
     at: EntryAt,
     offset: u64,
@@ -86,7 +88,7 @@ fn unit_way<'a>(
     let unit = at.entry.unit;
     let s = x.sheets.of(at.input);
     let target = absolute_entry_offset(s, unit, offset)?;
-    let key = Key {
+    let key = DieKey {
         source: at.source,
         offset: target,
     };
@@ -102,13 +104,13 @@ fn unit_way<'a>(
         left: at.left.saturating_sub(1),
         ..at
     };
-    Ok(Some(Way::Entry(next, target)))
+    Ok(Some(Way::Entry(next, key)))
 }
 
 // How a search goes on from the attribute of a name of an entry; none where it is no reference, or leads nowhere.
-pub fn way_of<'a>(
+pub fn way_of(
     work: &[u8],
-    x: Tables<'a>,
+    x: Tables,
     n: usize,
     at: EntryAt,
     name: u16,
@@ -125,24 +127,24 @@ pub fn way_of<'a>(
         Some(Reference::Unit(o)) => unit_way(work, x, n, at, o),
         Some(Reference::Section(o)) => Ok(Some(Way::Offset(OffsetAt {
             input: here,
-            source: DebugSource::Main,
-            target: o,
+            key: DieKey {
+                source: DebugSource::Main,
+                offset: o,
+            },
             left,
         }))),
         Some(Reference::Supplementary(o)) => {
-            if x.supplementary.units.count == 0 {
+            if here == DebugSource::Supplementary || x.supplementary.units.count == 0 {
                 return Ok(None);
             }
-            // Stays a match: the main sheet refers to the other one, and that to none.
-            match here {
-                DebugSource::Supplementary => Ok(None),
-                DebugSource::Main => Ok(Some(Way::Offset(OffsetAt {
-                    input: DebugSource::Supplementary,
+            Ok(Some(Way::Offset(OffsetAt {
+                input: DebugSource::Supplementary,
+                key: DieKey {
                     source: DebugSource::Supplementary,
-                    target: o,
-                    left,
-                }))),
-            }
+                    offset: o,
+                },
+                left,
+            })))
         }
     }
 }
