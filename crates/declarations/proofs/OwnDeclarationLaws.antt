@@ -1,5 +1,5 @@
 -- An entry's own declaration: its unit's number of the file, the warnings, and what they make of the search.
-use mathlib.Core.Path.{◌≡◌, refl, sym, ap, subst, ◌∙◌}
+use mathlib.Core.Path.{◌≡◌, refl, sym, ap, ◌∙◌}
 use mathlib.Core.Bool.{Bool, true, false, true≢false, false≢true}
 use mathlib.Core.Logic.{inl}
 use mathlib.Core.List.{List, [], ◌∷◌, ◌++◌, append-nil}
@@ -13,37 +13,34 @@ use Rattle.tlv.specs.declared.model.FileIndex.{FileIndex}
 use Rattle.std.specs.Prelude.{Some, None, Result, Ok, Err}
 use Rattle.std.specs.declared.option.Option.{Option as Given}
 use Rattle.tlv.specs.declared.refusal.Refusal.{Refusal}
-use Rattle.tlv.specs.Refusals.{as_outcome}
 use Rattle.tlv.specs.Outcome.{Outcome, ◌>>=◌}
 use Rattle.tlv.specs.Lists.{is_none}
-use Rattle.tlv.specs.Bytes.{bytes_of}
-use Rattle.tlv.specs.Fields.{fields, encode}
+use Rattle.tlv.specs.Fields.{fields}
 use Rattle.tlv.specs.Model.{CompilationUnit, LineHeader}
-use Rattle.tlv.specs.Checked.{Placed}
+use Rattle.tlv.specs.Checked.{Placed, Accepted}
 use Rattle.tlv.proofs.ListLaws.{any_one}
 use Rattle.tlv.proofs.CursorLaws.{field-within}
 use Rattle.tlv.proofs.PlaceFacts.{placed-start}
 use Rattle.tlv.proofs.PlacePromises.{placed-unit}
-use Rattle.buffers.specs.Buffer.{top, Put}
+use Rattle.buffers.specs.Buffer.{top}
 use Rattle.buffers.specs.Table.{Clear, KeptBut}
 use Rattle.buffers.specs.declared.warning.WarningKind.{WarningKind as Told}
 use Rattle.buffers.specs.WarningKinds as told
-use Rattle.buffers.specs.Output.{WarningKind, about, invalid_declaration_file, invalid_declaration_line, kind_number, warning_payload, each_of, files_bytes, warnings_bytes}
+use Rattle.buffers.specs.Output.{WarningKind, about, invalid_declaration_file, invalid_declaration_line, kind_number, each_of, files_bytes, warnings_bytes}
 use Rattle.buffers.proofs.TableLaws.{here, there, but_of, but_one, but_refl, but_trans}
-use Rattle.buffers.proofs.BufferLaws.{put-none, put_as}
-use Rattle.buffers.proofs.OutputLaws.{put-about}
+use Rattle.buffers.proofs.BufferLaws.{put-none}
 use Rattle.access.specs.Places.{unit_here, entry_here, unit_places, UnitOf}
 use Rattle.access.proofs.UnitFacts.{UnitAt, all-unit_places}
 use Rattle.lines.specs.Files.{FileTable, FileIndices, get}
 use Rattle.files.specs.declared.spans.FileUnit.{FileUnit}
 use Rattle.files.specs.declared.index.FileNumber.{FileNumber}
-use Rattle.files.specs.Pieces.{source_in, or_header, header_here, UnitPlaced, FileUnitIn, Described}
+use Rattle.files.specs.Pieces.{source_in, or_header, header_here, UnitPlaced, Described}
 use Rattle.files.specs.Store.{extent, entries_of, table_of, FilesIn}
 use Rattle.files.specs.Indices.{indices_in, number_of}
 use Rattle.files.proofs.GrownLaws.{table_kept, files-kept, grown-none}
 use Rattle.files.specs.Reached.{reached_indices, LookedUp}
 use Rattle.references.specs.declared.ways.EntryAt.{EntryAt}
-use Rattle.references.specs.Search.{Declaring, absolute_entry_offset, warn_declaration, declaration_of, own_declaration}
+use Rattle.references.specs.Search.{Declaring, warn_declaration, declaration_of, own_declaration}
 use Rattle.references.specs.Keys.{keys_from}
 use Rattle.references.specs.Names.{place_at, trail_at, Stands}
 use Rattle.references.specs.Reads.{after as still}
@@ -54,8 +51,9 @@ use Rattle.declarations.specs.declared.declaring.DeclaringState.{DeclaringState}
 use Rattle.declarations.specs.declared.declaring.Declared.{Declared}
 use Rattle.declarations.specs.declared.own_declarations.OwnLine.{OwnLine}
 use Rattle.declarations.specs.Declarations.{none_found, reached_files, indices_at, declaring_at, DeclaringIn, DeclaredState, lower, DeclaresCounted}
+use Rattle.references.specs.Warnings.{AboutWarned}
 use Rattle.declarations.specs.DeclaredSteps.{declared_by, OwnAt, Numbered, Warns, Owns, UnitKnown}
-use Rattle.declarations.proofs.DeclareFrames.{unit-room, spans-inside, lower-keys, lower-ready, lower-rest}
+use Rattle.declarations.proofs.DeclareFrames.{unit-room, lower-keys, lower-ready, lower-rest}
 use Rattle.declarations.proofs.DeclareLaws.{declares-here, declares-refused, declares-after}
 
 -- ---- the unit of a place
@@ -73,6 +71,9 @@ module _ {main supplementary w : List ℕ} {d : Places} {st : DeclaringState} (D
   accepted-at input =
       let I = index_at D.search-tables input in
       placed-start (source_in main supplementary input) I.number I.accepted
+
+  pub sheet-accepted : (input : DebugSource) → Accepted (source_in main supplementary input)
+  sheet-accepted input = let I = index_at D.search-tables input in record { number = I.number; is = I.accepted }
 
   pub unit-known : (at : EntryAt) → Stands main supplementary at → UnitKnown (source_in main supplementary at.input) at.entry.unit
   unit-known at A =
@@ -149,31 +150,31 @@ module _ {main supplementary w : List ℕ} {d : Places} {st : DeclaringState} (D
 -- ---- a warning
 
 module _ {s : List ℕ} {q p number : ℕ} {kind : Told} {warnings : List ℕ} {st : DeclaringState} where
-  pub warns-refused : {warnings' : List ℕ} {n : Refusal} → as_outcome (Err n) ≡ absolute_entry_offset (unit_here s q) (entry_here s p).offset → Warns s q p kind number warnings warnings' st (Err n)
-  warns-refused e = record { is = sym e }
+  pub warns-refused : {warnings' : List ℕ} {n : Refusal} → AboutWarned s q p (told.number_of kind) number st.warned warnings warnings' (Err n) → Warns s q p kind number warnings warnings' st (Err n)
+  warns-refused W = record { is = W.is }
 
-  pub warns-written : {warnings' : List ℕ} {n r : ℕ} → as_outcome (Ok n) ≡ absolute_entry_offset (unit_here s q) (entry_here s p).offset
-      → Put st.warned (encode 0x46 ((told.number_of kind ∷ []) ++ bytes_of 8 n ++ bytes_of 8 number)) warnings warnings' r
+  pub warns-laid : {warnings' : List ℕ} {r : ℕ} → AboutWarned s q p (told.number_of kind) number st.warned warnings warnings' (Ok r)
       → Warns s q p kind number warnings warnings' st (none_found (record { trail = st.trail; table = st.table; warned = r }))
-  warns-written {n = n} e P = record { is = (record { offset = n; is = sym e; put = P; trail = refl; table = refl }, refl) }
+  warns-laid W = record { is = (record { warning = W.is; trail = refl; table = refl }, refl) }
 
 module _ {main supplementary w : List ℕ} {d : Places} {st : DeclaringState} (D : DeclaringIn main supplementary w d st) {s : List ℕ} {q p number : ℕ} {kind : Told} {warnings warnings' : List ℕ} where
   declares-warned : (k : WarningKind) (r : Result Declared Refusal) (files : List ℕ) → length files < top → told.number_of kind ≡ kind_number k → {a : ℕ} → a ≤ st.trail.count + 1 → Warns s q p kind number warnings warnings' st r
       → DeclaresCounted (λ y. still y.trail (warn_declaration k (unit_here s q) (entry_here s p) number y)) main supplementary w w files files warnings warnings' d st a a r
-  unfolding warn_declaration ◌>>=◌ warnings_bytes each_of
+  unfolding warn_declaration ◌>>=◌
   declares-warned k (Err n) files few kd read W = declares-refused n (λ m. m) (λ m. refl) (λ m ws. rw W.is) (but_refl _ _)
   declares-warned k (Ok r) files few kd read W =
       let X = W.is.0 in
+      let put = X.warning.laid k kd in
       record {
         reads = λ m. m;
         adds = λ m. refl;
         few = rw X.trail read;
-        new = about k X.offset number ∷ [];
-        is = λ m ws. rw (X.is, X.trail, X.table, W.is.1);
+        new = about k X.warning.offset number ∷ [];
+        is = λ m ws. rw (X.warning.is, X.trail, X.table, W.is.1);
         after = record {
           grown = rw X.table (grown-none D.files few);
-          put = put_as (append-nil (encode 0x46 (warning_payload (about k X.offset number)))) (put-about k (told.number_of kind) X.offset number kd X.put);
-          ready = lower-ready D (but_refl w _) refl (rw X.trail refl) (rw X.table D.files) (rw X.table) (rw X.table) (let z = X.put.place in omega arith);
+          put = put;
+          ready = lower-ready D (but_refl w _) refl (rw X.trail refl) (rw X.table D.files) (rw X.table) (rw X.table) (let z = put.place in omega arith);
         };
         rest = but_refl _ _;
       }

@@ -25,6 +25,7 @@ use Rattle.files.specs.declared.store.StoredFiles.{StoredFiles}
 use Rattle.files.specs.Store.{entries_of, table_of}
 use Rattle.files.proofs.GrownLaws.{grown-trans}
 use Rattle.references.specs.declared.ways.EntryAt.{EntryAt}
+use Rattle.references.specs.declared.keys.DieKey.{DieKey as Key}
 use Rattle.references.specs.declared.ways.OffsetAt.{OffsetAt}
 use Rattle.references.specs.declared.ways.Way.{Way}
 use Rattle.references.specs.declared.trails.Trail.{Trail as Walked}
@@ -86,20 +87,20 @@ module _ {main supplementary w : List ℕ} {d : Places} {st : DeclaringState} (D
   unfolding resolve_reference
   reference-refused is n W = declares-refused n (λ k. k) (λ k. refl) (λ k ws. rw (W.is k)) (but_refl _ _)
 
-  pub entry_next : (next : EntryAt) (target : ℕ) (y : Given Way) → y ≡ Some (Way.Entry next target) → Ways (follow_from main supplementary at name) main supplementary w d.tables st.trail.count at.left (Ok y)
-      → EntryNext (follow_from main supplementary at name) main supplementary w d.tables st.trail.count at.left next target
-  entry_next next target y to W = rw to at W.is
+  pub entry_next : (next : EntryAt) (key : Key) (y : Given Way) → y ≡ Some (Way.Entry next key) → Ways (follow_from main supplementary at name) main supplementary w d.tables st.trail.count at.left (Ok y)
+      → EntryNext (follow_from main supplementary at name) main supplementary w d.tables st.trail.count at.left next key
+  entry_next next key y to W = rw to at W.is
 
   pub offset-next : (next : OffsetAt) (y : Given Way) → y ≡ Some (Way.Offset next) → Ways (follow_from main supplementary at name) main supplementary w d.tables st.trail.count at.left (Ok y)
       → OffsetNext (follow_from main supplementary at name) main supplementary w d.tables st.trail.count at.left next
   offset-next next y to W = rw to at W.is
 
-  module _ (R : Reaching main supplementary w st at reached) {next : EntryAt} {target : ℕ}
-      (N : EntryNext (follow_from main supplementary at name) main supplementary w d.tables st.trail.count at.left next target) where
+  module _ (R : Reaching main supplementary w st at reached) {next : EntryAt} {key : Key}
+      (N : EntryNext (follow_from main supplementary at name) main supplementary w d.tables st.trail.count at.left next key) where
     next-unit : (place_at main supplementary next).unit ≡ (place_at main supplementary at).unit
     next-unit = same-unit main supplementary at name _ _ (place_at main supplementary next) (N.is 0)
 
-    module _ {w₁ : List ℕ} (P : Pushed w w₁ d.tables st.trail.count (key_in next.source target)) (t : Walked) (one : t.count ≡ st.trail.count + 1) where
+    module _ {w₁ : List ℕ} (P : Pushed w w₁ d.tables st.trail.count (key_in key.source key.offset)) (t : Walked) (one : t.count ≡ st.trail.count + 1) where
       pub entry-reaching : Reaching main supplementary w₁ (more st t) next reached
       entry-reaching = reaching_as R (pushed-table D N.possible N.new P) next-unit
 
@@ -134,7 +135,7 @@ module _ {main supplementary w : List ℕ} {d : Places} {st : DeclaringState} (D
   unfolding resolve_reference resolve_absolute
   reference-offset is {next} r N G =
       declares-as r (λ k ws. rw (N.is k) (far_as (counted_declaration (at.left - 1) (dwarf_of main supplementary)) is (declaring_at main supplementary w d st ws k) _
-      (absolute-far (dwarf_of main supplementary) (search_source next.input) (search_source next.source) (trail_at w (keys_from d.tables) st.trail.count k) next.target))) (rw N.deeper at G)
+      (absolute-far (dwarf_of main supplementary) (search_source next.input) (search_source next.key.source) (trail_at w (keys_from d.tables) st.trail.count k) next.key.offset))) (rw N.deeper at G)
 
 -- ---- an offset of a section
 
@@ -151,7 +152,7 @@ module _ {main supplementary w : List ℕ} {d : Places} {st : DeclaringState} (D
   unfolding resolve_absolute follow_offset
   absolute-refused n e = declares-refused n (λ k. k) (λ k. refl) (λ k ws. rw (e k)) (but_refl _ _)
 
-  module _ (a : Aims main supplementary at) {w₁ : List ℕ} (P : Pushed w w₁ d.tables st.trail.count (key_in at.source at.target)) (t : Walked)
+  module _ (a : Aims main supplementary at) {w₁ : List ℕ} (P : Pushed w w₁ d.tables st.trail.count (key_in at.key.source at.key.offset)) (t : Walked)
       (one : t.count ≡ st.trail.count + 1) (size : length w₁ ≡ length w) where
     pub absolute-outside : {files warnings : List ℕ} {c : ℕ} → length files < top → length warnings < top → c ≤ st.trail.count + 1 → AimOutside main supplementary w d.tables st.trail.count at
         → DeclaresCounted (resolve_absolute at.left main supplementary at) main supplementary w w₁ files files warnings warnings d st c c (none_found (more st t))
@@ -209,6 +210,6 @@ module _ {main supplementary w : List ℕ} {d : Places} {st : DeclaringState} (D
             → DeclaresCounted (resolve_absolute at.left main supplementary at) main supplementary w w₃ files files₃ warnings warnings₃ d st c b r
         unfolding resolve_absolute follow_offset indices_at
         absolute-entry {warnings} few short r G =
-            let keys : keys_at w₂ (keys_from d.tables) t.count ≡ key_in at.source at.target ∷ keys_at w (keys_from d.tables) st.trail.count = lower-keys ready₁ J.rest size₂ ∙ rw one P.keys in
+            let keys : keys_at w₂ (keys_from d.tables) t.count ≡ key_in at.key.source at.key.offset ∷ keys_at w (keys_from d.tables) st.trail.count = lower-keys ready₁ J.rest size₂ ∙ rw one P.keys in
             declares-after (joined-state warnings few short) rest₂ (λ k. k + 1) (λ k. omega arith)
             (λ k ws. rw (A.is k, ← pushed-table D a.possible A.new P, joined.is, append-nil ws, keys)) r (rw A.left at G)

@@ -15,7 +15,6 @@ use Rattle.tlv.specs.Model.{CompilationUnit, Attribute, LineHeader}
 use Rattle.tlv.proofs.OutcomeLaws.{Gives, gives, gives_none, gives-cond, gives-bind, gives-map, given}
 use Rattle.buffers.specs.Buffer.{top}
 use Rattle.buffers.specs.Table.{KeptBut}
-use Rattle.buffers.proofs.TableLaws.{but_refl}
 use Rattle.buffers.specs.Output.{Warning}
 use Rattle.access.specs.declared.index.EntryPlace.{EntryPlace}
 use Rattle.access.specs.Places.{unit_here, entry_here}
@@ -39,7 +38,7 @@ use Rattle.declarations.specs.declared.declaring.DeclaringState.{DeclaringState}
 use Rattle.declarations.specs.declared.declaring.Declaration.{Declaration}
 use Rattle.declarations.specs.declared.declaring.Declared.{Declared}
 use Rattle.declarations.specs.Declarations.{none_found, reached_files, ReachedUnit, indices_at, declaring_at, DeclaringIn, DeclaredAs, Declares, CountedAs, DeclaresCounted, LineRead, searched, Reaching, resolve_reference}
-use Rattle.declarations.proofs.DeclareFrames.{more, searched-map, lower-ready}
+use Rattle.declarations.proofs.DeclareFrames.{more, searched-map}
 use Rattle.declarations.proofs.DeclareLaws.{Stops, none_is, declares-here, declares-as, and_then, then-missing, then_stop, then_last}
 
 -- ---- a reference leads to its own unit, or elsewhere by an offset

@@ -175,5 +175,5 @@ resolve_reference k main supplementary at is name s =
 -- resolve_absolute: the declaration at an offset of the section; k is how many entries are left
 unfoldable pub resolve_absolute : ℕ → List ℕ → List ℕ → OffsetAt → Declaring → Counted Declaring
 resolve_absolute k main supplementary at s =
-    after s.trail (follow_absolute (dwarf_of main supplementary) (search_source at.input) (search_source at.source) s.trail at.target) >>> λ f.
+    after s.trail (follow_absolute (dwarf_of main supplementary) (search_source at.input) (search_source at.key.source) s.trail at.key.offset) >>> λ f.
     counted_declaration_at (counted_declaration k (dwarf_of main supplementary)) [] (with_trail s f.trail) f.target

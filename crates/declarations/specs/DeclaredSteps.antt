@@ -1,15 +1,12 @@
 -- Contract. What the steps of the declaration search promise: an entry's own declaration, a unit's files that join the table, an offset that is followed.
-use Rattle.std.specs.Prelude.{Some, None, Result, Ok, Err, ℕ, ◌+◌, ◌≤◌, ◌<◌, ◌≡◌, List, [], ◌∷◌, ◌++◌, length}
+use Rattle.std.specs.Prelude.{Some, None, Result, Ok, Err, ℕ, ◌+◌, ◌≤◌, ◌<◌, ◌≡◌, List, length}
 use Rattle.std.specs.declared.option.Option.{Option as Given}
 use Rattle.tlv.specs.declared.model.FileIndex.{FileIndex}
 use Rattle.tlv.specs.declared.refusal.Refusal.{Refusal}
 use Rattle.tlv.specs.Refusals as refusals
-use Rattle.tlv.specs.Tags.{tray_warning_tag}
 use Rattle.tlv.specs.Outcome.{Outcome, refused, done}
-use Rattle.tlv.specs.Bytes.{bytes_of}
-use Rattle.tlv.specs.Fields.{encode}
 use Rattle.tlv.specs.Model.{CompilationUnit}
-use Rattle.buffers.specs.Buffer.{top, Put}
+use Rattle.buffers.specs.Buffer.{top}
 use Rattle.buffers.specs.Table.{KeptBut}
 use Rattle.buffers.specs.declared.warning.WarningKind.{WarningKind}
 use Rattle.buffers.specs.WarningKinds as kinds
@@ -22,6 +19,7 @@ use Rattle.files.specs.Store.{table_of, FilesIn, Grown}
 use Rattle.files.specs.Indices.{number_of}
 use Rattle.references.specs.Search.{absolute_entry_offset, Declaring, declaration_of, own_declaration, unit_files}
 use Rattle.references.specs.Reads.{after}
+use Rattle.references.specs.Warnings.{WarningLaid}
 use Rattle.declarations.specs.declared.declaring.Places.{Places}
 use Rattle.declarations.specs.declared.declaring.DeclaringState.{DeclaringState}
 use Rattle.declarations.specs.declared.declaring.Declared.{Declared}
@@ -49,11 +47,9 @@ pub record Numbered (main supplementary w w' : List ℕ) (d : Places) (st : Decl
 
 -- ---- a warning
 
--- a warning of the entry at p of the unit at q was written, with its offset o
+-- a warning of the entry at p of the unit at q was laid
 pub record WarnedOf (s : List ℕ) (q p : ℕ) (kind : WarningKind) (number : ℕ) (warnings warnings' : List ℕ) (st st' : DeclaringState) : Type 0 where
-  pub offset : ℕ
-  pub is : absolute_entry_offset (unit_here s q) (entry_here s p).offset ≡ done offset
-  pub put : Put st.warned (encode tray_warning_tag ((kinds.number_of kind ∷ []) ++ bytes_of 8 offset ++ bytes_of 8 number)) warnings warnings' st'.warned
+  pub warning : WarningLaid s q p (kinds.number_of kind) number st.warned warnings warnings' st'.warned
   pub trail : st'.trail ≡ st.trail
   pub table : st'.table ≡ st.table
 

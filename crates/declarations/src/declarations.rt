@@ -8,7 +8,7 @@ ghost use Rattle.declarations.specs.Declarations.{answered, indices_at, Declarin
 use crate::declaring::{Declaration, DeclaringState, Places, Position};
 use crate::joins::join_files;
 use crate::own_declarations::own_declaration;
-use references::keys::{Key, is_visited, push_key};
+use references::keys::{is_visited, push_key};
 use references::ways::{OffsetAt, Way, way_of};
 use tlv::constants::{DW_AT_ABSTRACT_ORIGIN, DW_AT_SPECIFICATION};
 use tlv::refusal::Refusal;
@@ -17,11 +17,11 @@ use tlv::refusal::Refusal;
 // Stays beside references' name search, of the same shape: one search over both would lend the file table and the warnings to that of a name as well.
 // Stays two calls, the second the answer, as references' resolve_name_inner, which says why.
 #[cycle(resolve_resolve_absolute_resolve_reference)]
-pub fn resolve<'a>(
+pub fn resolve(
     work: &mut [u8],
     files: &mut [u8],
     warnings: &mut [u8],
-    d: Places<'a>,
+    d: Places,
     here: Position,
     st: &mut DeclaringState,
 ) -> Result<Option<Declaration>, Refusal>
@@ -51,11 +51,11 @@ pub fn resolve<'a>(
 
 // The declaration that the attribute of a name of an entry leads to.
 #[cycle(resolve_resolve_absolute_resolve_reference)]
-fn resolve_reference<'a>(
+fn resolve_reference(
     work: &mut [u8],
     files: &mut [u8],
     warnings: &mut [u8],
-    d: Places<'a>,
+    d: Places,
     here: Position,
     name: u16,
     st: &mut DeclaringState,
@@ -71,11 +71,7 @@ fn resolve_reference<'a>(
 {
     match way_of(work, d.tables, st.trail.count, here.at, name)? {
         None => Ok(None),
-        Some(Way::Entry(next, target)) => {
-            let key = Key {
-                source: next.source,
-                offset: target,
-            };
+        Some(Way::Entry(next, key)) => {
             push_key(work, d.tables, st.trail.count, key);
             st.trail = st.trail.with_entry();
             let there = Position { at: next, ..here };
@@ -87,11 +83,11 @@ fn resolve_reference<'a>(
 
 // The declaration of the entry at an offset of a section.
 #[cycle(resolve_resolve_absolute_resolve_reference)]
-pub fn resolve_absolute<'a>(
+pub fn resolve_absolute(
     work: &mut [u8],
     files: &mut [u8],
     warnings: &mut [u8],
-    d: Places<'a>,
+    d: Places,
     at: OffsetAt,
     st: &mut DeclaringState,
 ) -> Result<Option<Declaration>, Refusal>
@@ -102,16 +98,12 @@ pub fn resolve_absolute<'a>(
         main supplementary work.old work.new files.old files.new warnings.old warnings.new d.entry st.old
         st.old.trail.reads st.new.trail.reads (answered st.new result) }
 {
-    let key = Key {
-        source: at.source,
-        offset: at.target,
-    };
-    if is_visited(work, d.tables, st.trail.count, key) {
+    if is_visited(work, d.tables, st.trail.count, at.key) {
         return Ok(None);
     }
     let s = d.tables.sheets.of(at.input);
-    let found = d.tables.index(at.input).target_at(s, work, at.target)?;
-    push_key(work, d.tables, st.trail.count, key);
+    let found = d.tables.index(at.input).target_at(s, work, at.key.offset)?;
+    push_key(work, d.tables, st.trail.count, at.key);
     let Some(entry) = found else {
         st.trail = st.trail.with_target();
         return Ok(None);

@@ -11,6 +11,8 @@ use tlv::model::FileIndex;
 use tlv::refusal::Refusal;
 
 // The search's tables, the map of the unit that is imported, and where the spans of a unit's directories and its map are put.
+// Stays a place and a size: it is room for two tables that are still to be made, so there is no count of a `Stored`. Only contracts read `room`, to say how far
+// a search writes; a `ghost` value in its place would leave the cycle of calls in `resolve` without a generated proof.
 #[derive(Clone, Copy, Debug)]
 pub struct Places<'a> {
     pub tables: Tables<'a>,
@@ -20,6 +22,8 @@ pub struct Places<'a> {
 }
 
 // How far the search has come, the file table, and how many bytes of warnings were written.
+// Stays with table and warnings' place side by side, as collect's Converting and CollectedLines and subprograms' ImportState: join_files hands back
+// the table alone, and references' warn_about the place alone.
 #[derive(Clone, Copy, Debug)]
 pub struct DeclaringState {
     pub trail: Trail,

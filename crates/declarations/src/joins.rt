@@ -12,10 +12,10 @@ use tlv::model::DebugSource;
 use tlv::refusal::Refusal;
 
 // The files of a unit that is reached by a section offset join the table, which is handed back.
-pub fn join_files<'a>(
+pub fn join_files(
     work: &mut [u8],
     files: &mut [u8],
-    d: Places<'a>,
+    d: Places,
     input: DebugSource,
     unit: usize,
     st: DeclaringState,

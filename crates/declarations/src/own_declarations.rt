@@ -1,7 +1,7 @@
 // The declaration that an entry has of its own.
 ghost use Rattle.std.specs.Prelude.{◌≡◌};
 ghost use Rattle.tlv.specs.Lists.{is_none};
-ghost use Rattle.tlv.specs.Checked.{Placed};
+ghost use Rattle.tlv.specs.Checked.{Placed, Accepted};
 ghost use Rattle.access.specs.Places.{unit_here, UnitOf};
 ghost use Rattle.files.specs.Pieces.{UnitPlaced};
 ghost use Rattle.files.specs.Sheets.{sheet_in};
@@ -14,19 +14,18 @@ ghost use Rattle.declarations.specs.DeclaredSteps.{OwnAt, Numbered, Warns, Owns,
 use crate::declaring::{Declaration, DeclaringState, Places, Position};
 use access::access::next_own;
 use access::index::EntryPlace;
-use buffers::output::put_warning;
 use buffers::warning::WarningKind;
 use files::index::{FileNumber, get_index};
 use files::spans::FileUnit;
 use references::attributes::{file_index_attribute, unsigned_attribute};
-use references::ways::absolute_entry_offset;
-use tlv::bytes::Number;
+use references::warnings::warn_about;
 use tlv::constants::{DW_AT_DECL_FILE, DW_AT_DECL_LINE};
 use tlv::model::FileIndex;
 use tlv::refusal::Refusal;
-use tlv::tags::{FIELD_HEAD, HEADER_TAG, UNIT_WHOLE};
+use tlv::tags::{HEADER_TAG, UNIT_WHOLE};
 
 // The file number and the line that an entry has.
+// Stays beside Declaration: both numbers are of the sheet's types here, since neither was looked up or tested yet.
 #[derive(Clone, Copy, Debug)]
 pub struct OwnLine {
     pub file: FileNumber,
@@ -48,6 +47,7 @@ fn declared_at(s: &[u8], entry: EntryPlace) -> Option<OwnLine>
 }
 
 // Whether the unit at a place has no line header.
+// Stays beside checks' has_encoding: each is one look for a field of the unit, by a walk of its own.
 pub fn lacks_header(s: &[u8], unit: usize) -> bool
     requires { UnitPlaced s.now unit }
     ensures { result ≡ is_none (unit_here s.now unit).header }
@@ -57,9 +57,9 @@ pub fn lacks_header(s: &[u8], unit: usize) -> bool
 
 // The table's number for one of the unit's at a place: by the map of the unit that is imported; of a unit that was reached, by the table,
 // and none where it has no header.
-fn number_of<'a>(
+fn number_of(
     work: &mut [u8],
-    d: Places<'a>,
+    d: Places,
     here: Position,
     file: FileNumber,
     st: DeclaringState,
@@ -84,7 +84,6 @@ fn number_of<'a>(
 }
 
 // Warns of a bad declaration, with the entry's offset in its section and a number: it is none.
-// Stays beside dies' warn_about: alike are a sum and a warning, a call each, and one for both would be these two calls.
 fn warn_declaration(
     s: &[u8],
     warnings: &mut [u8],
@@ -93,22 +92,20 @@ fn warn_declaration(
     number: u64,
     st: &mut DeclaringState,
 ) -> Result<Option<Declaration>, Refusal>
-    requires listed { UnitOf s.now entry.unit }
-    requires placed { Placed s.now 0 }
+    requires accepted { Accepted s.now }
     requires entry_known { EntryKnown s.now entry.unit entry.place }
     ensures warns { Warns s.now entry.unit entry.place kind number warnings.old warnings.new st.old (answered st.new result) }
     ensures same_trail { st.new.trail ≡ st.old.trail }
 {
-    let offset = absolute_entry_offset(s, entry.unit, u64::read(s, entry.place + FIELD_HEAD))?;
-    st.warned = put_warning(warnings, st.warned, kind, offset, number);
+    st.warned = warn_about(s, warnings, entry, kind, number, st.warned)?;
     Ok(None)
 }
 
 // The declaration that an entry has itself.
-pub fn own_declaration<'a>(
+pub fn own_declaration(
     work: &mut [u8],
     warnings: &mut [u8],
-    d: Places<'a>,
+    d: Places,
     here: Position,
     st: &mut DeclaringState,
 ) -> Result<Option<Declaration>, Refusal>

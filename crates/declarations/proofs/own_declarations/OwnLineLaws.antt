@@ -1,27 +1,21 @@
--- What is read of an entry's own declaration: its file number and line, its offset in the section, and whether its unit has a line header.
+-- What is read of an entry's own declaration: its file number and line, and whether its unit has a line header.
 use mathlib.Core.Path.{◌≡◌, refl, sym, ◌∙◌}
 use mathlib.Core.Bool.{Bool, true, false, not}
 use mathlib.Core.List.{List}
-use Prim.Native.Nat.{ℕ, ◌+◌, ◌≤◌}
-use native.Mathlib.Omega.{arith}
-use lib.ListN.{length}
+use Prim.Native.Nat.{ℕ, ◌+◌}
 use Rattle.tlv.specs.Lists.{is_none, map_option}
-use Rattle.tlv.specs.Bytes.{le_at}
 use Rattle.tlv.specs.Cursor.{step_at}
-use Rattle.tlv.specs.Checked.{Placed}
 use Rattle.std.specs.Prelude.{Some, None, is_some}
 use Rattle.std.specs.declared.option.Option.{Option as Given}
 use Rattle.tlv.specs.declared.fields.FieldSpan.{FieldSpan}
 use Rattle.access.specs.Places.{entry_here, unit_here}
 use Rattle.access.specs.Access.{NextOwn}
 use Rattle.access.proofs.UnitFacts.{unit-header}
-use Rattle.access.proofs.EntryPlaceLaws.{entry-offset_is}
 use Rattle.files.specs.Pieces.{UnitPlaced}
 use Rattle.files.proofs.UnitLaws.{first-none, first_found}
 use Rattle.references.specs.Search.{unsigned_attribute, file_index_attribute, own_declaration}
-use Rattle.references.specs.Tables.{EntryKnown, number_given}
+use Rattle.references.specs.Tables.{number_given}
 use Rattle.references.proofs.NumberLaws.{given-none, given-some}
-use Rattle.references.proofs.ReferenceLaws.{entry-placed, entry-step, entry-inside}
 use Rattle.declarations.specs.DeclaredSteps.{OwnAt}
 
 -- ---- the file number and the line
@@ -51,12 +45,3 @@ module _ {s : List ℕ} {q : ℕ} (U : UnitPlaced s q) where
   unfolding map_option
   header-is None own e = not_is _ false (sym e) ∙ rw (unit-header s q (step_at s q) 0x10 (q + 3) 18 (q + 21) refl U.is, first-none s (q + 21) 0x13 own)
   header-is (Some f) own e = not_is _ true (sym e) ∙ rw (unit-header s q (step_at s q) 0x10 (q + 3) 18 (q + 21) refl U.is, first_found s (q + 21) 0x13 f own)
-
--- ---- the entry's offset
-
-module _ {s : List ℕ} {q p : ℕ} (accepted : Placed s 0) (known : EntryKnown s q p) where
-  pub place_inside : p + 3 + 8 ≤ length s
-  place_inside = let l = entry-inside accepted known in omega arith
-
-  pub entry-is : {offset : ℕ} → offset ≡ le_at 8 s (p + 3) → (entry_here s p).offset ≡ offset
-  entry-is e = entry-offset_is s p _ 0x17 (p + 3) 12 (p + 15) refl (entry-step accepted known) (entry-placed accepted known) refl ∙ sym e

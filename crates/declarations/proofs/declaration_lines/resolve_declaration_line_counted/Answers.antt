@@ -1,6 +1,5 @@
 -- `declaration_lines::resolve_declaration_line_counted` meets its contract.
 use mathlib.Core.Path.{sym, ◌∙◌}
-use mathlib.Core.Bool.{false≢true}
 use Rattle.declarations.specs.Declarations.{indices_at}
 use Rattle.declarations.proofs.ResolveLaws.{from-as, restart-as, line_plain, line_read}
 use Rattle.declarations.proofs.declaration_lines.resolve_declaration_line_counted.Goals as goal

@@ -4,7 +4,6 @@ use native.Mathlib.Omega.{arith}
 use Rattle.tlv.proofs.AnswerLaws.{handed}
 use Rattle.references.specs.declared.trails.Trail.{Trail as Walked}
 use Rattle.references.proofs.KeyLaws.{keys-inside}
-use Rattle.references.proofs.FollowLaws.{index-here}
 use Rattle.declarations.proofs.AimLaws.{aim-seen, aim-refused, aim-outside, aim-entry}
 use Rattle.declarations.proofs.ResolveLaws.{resolve-deep, resolve-own, resolve-first, resolve-second, first-reaching, second-reaching, missing-is, read-as, from-as}
 use Rattle.declarations.proofs.DeclareFrames.{pushed_room, pushed_ready}

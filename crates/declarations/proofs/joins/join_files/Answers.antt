@@ -2,9 +2,8 @@
 use mathlib.Core.Path.{refl}
 use native.Mathlib.Omega.{arith}
 use Rattle.tlv.proofs.AnswerLaws.{handed}
-use Rattle.declarations.proofs.DeclareFrames.{spans-inside}
-use Rattle.declarations.proofs.OwnDeclarationLaws.{described-files, described-room}
-use Rattle.declarations.proofs.JoinLaws.{joins-none, join-listed, join-room, joins-refused, joins-table}
+use Rattle.declarations.proofs.OwnDeclarationLaws.{described-files}
+use Rattle.declarations.proofs.JoinLaws.{joins-none, join-listed, joins-refused, joins-table}
 use Rattle.declarations.proofs.joins.join_files.Goals as goal
 
 pub returns-then-lacks_header : goal.returns-then-lacks_header

@@ -1,6 +1,6 @@
 -- `own_declarations::own_declaration` meets its contract. The number, then a warning or the line.
 use native.Mathlib.Omega.{arith}
-use Rattle.declarations.proofs.OwnDeclarationLaws.{accepted-at, unit-known, own-nothing, own-no_file, own-long_line, own-found}
+use Rattle.declarations.proofs.OwnDeclarationLaws.{accepted-at, sheet-accepted, unit-known, own-nothing, own-no_file, own-long_line, own-found}
 use Rattle.declarations.proofs.own_declarations.own_declaration.Goals as goal
 
 pub declared_at-requires-clause-placed : goal.declared_at-requires-clause-placed
@@ -9,11 +9,8 @@ declared_at-requires-clause-placed c = rw c.of-s.ensures (accepted-at c.requires
 pub number_of-requires-clause-unit_known : goal.number_of-requires-clause-unit_known
 number_of-requires-clause-unit_known c = unit-known c.requires.declaring_in c.args.here.at c.requires.stands
 
-pub warn_declaration-requires-clause-listed : goal.warn_declaration-requires-clause-listed
-warn_declaration-requires-clause-listed c = rw c.of-s.ensures (unit-known c.requires.declaring_in c.args.here.at c.requires.stands).listed
-
-pub warn_declaration-requires-clause-placed : goal.warn_declaration-requires-clause-placed
-warn_declaration-requires-clause-placed c = rw c.of-s.ensures (accepted-at c.requires.declaring_in c.args.here.at.input)
+pub warn_declaration-requires-clause-accepted : goal.warn_declaration-requires-clause-accepted
+warn_declaration-requires-clause-accepted c = rw c.of-s.ensures (sheet-accepted c.requires.declaring_in c.args.here.at.input)
 
 pub returns-in_default-try_from-clause-owns : goal.returns-in_default-try_from-clause-owns
 returns-in_default-try_from-clause-owns c = own-long_line c.requires.declaring_in c.args.here.at _ c.of-s.ensures c.declared_at.ensures c.in-Some.is c.number_of.ensures c.number_of.auto.work (omega (arith, c.well_formed)) c.in-Some-number_of.is (omega (arith, c.in_default-try_from.ensures)) c.warn_declaration-in_default-try_from.ensures.warns
@@ -27,8 +24,5 @@ returns-in_default-number_of-clause-owns c = own-no_file c.requires.declaring_in
 pub returns-clause-owns : goal.returns-clause-owns
 returns-clause-owns c = own-found c.requires.declaring_in c.args.here.at _ c.of-s.ensures c.declared_at.ensures c.in-Some.is c.number_of.ensures c.number_of.auto.work (omega (arith, c.well_formed)) c.in-Some-number_of.is c.in-Ok.ensures
 
-pub warn_declaration-requires-in_default-try_from-clause-listed : goal.warn_declaration-requires-in_default-try_from-clause-listed
-warn_declaration-requires-in_default-try_from-clause-listed c = rw c.of-s.ensures (unit-known c.requires.declaring_in c.args.here.at c.requires.stands).listed
-
-pub warn_declaration-requires-in_default-try_from-clause-placed : goal.warn_declaration-requires-in_default-try_from-clause-placed
-warn_declaration-requires-in_default-try_from-clause-placed c = rw c.of-s.ensures (accepted-at c.requires.declaring_in c.args.here.at.input)
+pub warn_declaration-requires-in_default-try_from-clause-accepted : goal.warn_declaration-requires-in_default-try_from-clause-accepted
+warn_declaration-requires-in_default-try_from-clause-accepted c = rw c.of-s.ensures (sheet-accepted c.requires.declaring_in c.args.here.at.input)
