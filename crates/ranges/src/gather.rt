@@ -30,6 +30,8 @@ fn put_fitting(work: &mut [u8], nest: RangeNest, n: usize, range: AddressRange) 
 }
 
 // The ranges of the entry whose field ends at `at` that are nonempty and lie inside one of its parent's, at the nest's place as they come.
+// Stays a count, as gather_list: the nest says where the ranges begin, and keeps saying it.
+// Stays a clause, as in coalesce_ranges, field_ranges and inline_ranges: it bounds the lent work slice, which is written, so no value holds it.
 pub fn gather_ranges(s: &[u8], at: usize, work: &mut [u8], nest: RangeNest) -> usize
     requires placed { Placed s.now at }
     requires fields_fit { nest.to + range_record * length (range_fields s.now at) ≤ length work.old }
@@ -46,6 +48,7 @@ pub fn gather_ranges(s: &[u8], at: usize, work: &mut [u8], nest: RangeNest) -> u
 }
 
 // The ranges of a list that are nonempty and lie inside one of its parent's, at the nest's place as they come.
+// Stays beside subprograms' import_list: there a list's fault ends the ranges with a warning, here it is handed on.
 pub fn gather_list(
     lists: RangeLists,
     list: ListField,

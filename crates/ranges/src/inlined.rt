@@ -1,6 +1,8 @@
 // The ranges of an inlined entry in the work slice: of its fields 19, or of its range list.
 ghost use Rattle.std.specs.Prelude.{◌≡◌, false, ◌+◌, ◌*◌, ◌/◌, ◌≤◌, length};
+ghost use Rattle.tlv.specs.Tags.{list_tag};
 ghost use Rattle.tlv.specs.Checked.{Placed};
+ghost use Rattle.access.specs.Access.{NextOwn};
 ghost use Rattle.rnglists.specs.Room.{range_least};
 ghost use Rattle.rnglists.specs.Sizes.{width_of};
 ghost use Rattle.ranges.specs.RangeTable.{range_fields, own_lists, list_at, read_at, Merges, MergesList, MergesFields, range_record};
@@ -10,10 +12,12 @@ use crate::ranges::{RangeNest, coalesce_at, coalesce_ranges};
 use access::access::next_own;
 use buffers::table::Stored;
 use rnglists::lists::{ListField, RangeLists};
+use tlv::fields::FieldSpan;
 use tlv::refusal::Refusal;
 use tlv::tags::{FAILURE_TAG, LIST_TAG};
 
 // Of a list, the ranges that are nonempty and lie inside one of its parent's, merged at the nest's place.
+// Stays with work and nest apart, as below, in gather.rt and coalesce_ranges: the slice is lent to be written, and put_fitting takes it beside other things.
 fn list_ranges(
     lists: RangeLists,
     list: ListField,
@@ -40,7 +44,20 @@ fn field_ranges(main: &[u8], at: usize, work: &mut [u8], nest: RangeNest) -> Res
     Ok(coalesce_ranges(main, at, work, nest))
 }
 
-// The same of the entry whose field ends at `at`, from its list where it has one. Without any list in the unit none is looked for.
+// The field 1f of the entry whose fields begin at a place; it is looked for only where the main sheet has one.
+pub fn list_field(main: &[u8], with_lists: bool, at: usize) -> Option<FieldSpan>
+    requires placed { Placed main.now at }
+    requires listless { with_lists ≡ false → own_lists main.now at ≡ 0 }
+    ensures { NextOwn main.now at list_tag result }
+{
+    if with_lists {
+        return next_own(main, at, LIST_TAG);
+    }
+    None
+}
+
+// The same of the entry whose field ends at `at`, from its list where it has one. Where no entry of the sheet names a list none is looked for.
+// Stays with the flag beside the lists: dies' UnitContext says why.
 pub fn inline_ranges(
     main: &[u8],
     lists: RangeLists,
@@ -57,11 +74,9 @@ pub fn inline_ranges(
     ensures { Merges (read_at lists.entry.lists.now lists.entry.addresses.now main.now at) main.now lists.entry.lists.now at
         work.old work.new nest.parent.base nest.parent.count nest.to result }
 {
-    if with_lists {
-        if let Some(field) = next_own(main, at, LIST_TAG) {
-            let list = ListField::read(main, field.start);
-            return list_ranges(lists, list, work, nest);
-        }
-    }
-    field_ranges(main, at, work, nest)
+    let Some(field) = list_field(main, with_lists, at) else {
+        return field_ranges(main, at, work, nest);
+    };
+    let list = ListField::read(main, field.start);
+    list_ranges(lists, list, work, nest)
 }
