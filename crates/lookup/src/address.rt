@@ -41,6 +41,7 @@ pub fn function_at(s: &[u8], address: u64) -> Option<FunctionPlace>
 }
 
 // The last row at or below the address among the own fields of a function, which begin at `own`.
+// Stays with tray, place and address apart, as the two below: chain_at asks node_holds of each node's own place, so a struct would be made anew.
 pub fn row_in_force(s: &[u8], own: usize, address: u64) -> Option<usize>
     requires { StandsOwn s.now own }
     ensures { place_of result ≡ row_from s.now own address }
@@ -108,6 +109,7 @@ pub fn chain_at(s: &[u8], own: usize, address: u64) -> Chain
 }
 
 // What is running at an address: the first function in the tray that holds it, its row in force, the chain of its nodes that hold it.
+// Stays beside look_index's look_up_in: alike is the struct of three calls, behind a search of its own in each.
 pub fn look_up(s: &[u8], address: u64) -> Result<LookedUp, Refusal>
     ensures { LooksUp s.now address result }
 {

@@ -39,6 +39,7 @@ pub fn may_follow(previous: u8, tag: u8) -> bool
 }
 
 // Whether the range that a payload begins with holds an address.
+// Stays a clause, as in symbols: a payload's length is known by its tag's shape, and a type of 16 bytes would be made anew for each field.
 fn begins_with_addresses(payload: &[u8]) -> bool
     requires { 16 ≤ length payload.now }
     ensures { result ≡ range_formed payload.now }
@@ -72,6 +73,7 @@ fn range_field_formed(payload: &[u8]) -> bool
 }
 
 // Whether the payload of a field is formed, where the next node may be `depth` deep.
+// Stays a tag and a payload, here and in depth_after, as in tlv's grammar: a struct of both would be made anew for each field.
 #[tactic(auto, unfolding(buffers::specs::Reader::records_formed))]
 pub fn payload_formed(depth: u64, tag: u8, payload: &[u8]) -> bool
     ensures { result ≡ records_formed depth tag payload.now }
@@ -109,7 +111,7 @@ fn fields_formed<F: Fn(u8) -> bool>(s: &[u8], from: usize, after: u8, ends: F) -
     let mut p = from;
     let mut previous = after;
     let mut depth: u64 = 0;
-    // Stays a loop over fields: next_field says why.
+    // Stays a loop over fields: next_field says why, and tlv's check_input why it goes by the bytes that are left.
     while p < s.len() {
         let Some(field) = next_field(s, p) else {
             return false;
@@ -129,6 +131,7 @@ fn fields_formed<F: Fn(u8) -> bool>(s: &[u8], from: usize, after: u8, ends: F) -
 }
 
 // Whether a tray is in document 01's form.
+// Stays a bool: three of the five that ask it fill a lent slice with 0 before they refuse, so an Err would be taken apart there.
 pub fn check_records(s: &[u8]) -> bool
     ensures { result ≡ records_form 0 0 (fields s.now) }
 {

@@ -1,22 +1,23 @@
 // The answers of the look-ups, and the numbers of a records tray. A place is the byte place of a field in the tray.
 
-// How long the payloads of a tray's fields are: a row's and a range's just so, the others' at the least, since a name or a pattern follows.
-pub const FUNCTION_SIZE: usize = 16;
+// How long the payloads of a tray's fields are as buffers writes them, or are at the least where a name or a pattern follows.
+pub const FUNCTION_SIZE: usize = buffers::output::TRAY_FUNCTION as usize;
 
 pub const ROW_SIZE: usize = buffers::output::TRAY_ROW as usize;
 
-pub const NODE_SIZE: usize = 10;
+pub const NODE_SIZE: usize = buffers::output::TRAY_NODE as usize;
 
-pub const RANGE_SIZE: usize = 16;
+pub const RANGE_SIZE: usize = buffers::output::TRAY_RANGE as usize;
 
-pub const SITE_SIZE: usize = 9;
+pub const SITE_SIZE: usize = buffers::output::TRAY_SITE as usize;
 
 // The depth of the deepest node, and how many nodes a chain has at most.
-pub const DEEPEST: u64 = 256;
+pub const DEEPEST: u64 = buffers::output::DEEPEST_NODE as u64;
 
-pub const CHAIN_MOST: usize = 257;
+pub const CHAIN_MOST: usize = buffers::output::DEEPEST_NODE + 1;
 
 // The places of a chain's nodes, the root's first, 0 behind them.
+// Stays an array with a count beside it: C lends room for these 257 places, 0 behind the nodes, and for their number apart; a Vec would need the heap.
 #[derive(Clone, Copy, Debug)]
 pub struct Chain {
     pub places: [usize; CHAIN_MOST],

@@ -1,12 +1,13 @@
 // The functions inside a window, and those that cross its edge, as 41 fields in a lent tray.
-ghost use Rattle.std.specs.Prelude.{◌≡◌, ◌≤◌, length};
+ghost use Rattle.std.specs.Prelude.{◌≡◌};
 ghost use Rattle.lookup.specs.Window.{crosses, functions_inside, functions_crossing};
 ghost use Rattle.lookup.specs.Walk.{Stands};
 ghost use Rattle.lookup.specs.Answers.{list_given};
-ghost use Rattle.lookup.specs.Listing.{LaidPart, LaysPassing, ListsPassing};
+ghost use Rattle.lookup.specs.Listing.{LaysPassing, ListsPassing};
 
 use crate::form::check_records;
 use crate::lent::refused;
+use buffers::output::put_bytes;
 use tlv::fields::next_field;
 use tlv::model::AddressRange;
 use tlv::refusal::Refusal;
@@ -17,15 +18,6 @@ fn crosses_edge(window: AddressRange, range: AddressRange) -> bool
     ensures { result ≡ crosses window range }
 {
     window.start.max(range.start) < window.end.min(range.end) && !range.is_inside(window)
-}
-
-// The bytes from p to below `next`, laid into the list.
-fn put_part(s: &[u8], p: usize, next: usize, list: &mut [u8], at: usize) -> usize
-    requires p_le_next { p ≤ next }
-    requires next_in_bounds { next ≤ length s.now }
-    ensures { LaidPart s.now list.old list.new p next at result }
-{
-    buffers::output::put_bytes(list, at, &s[p..next])
 }
 
 // The fields of the functions that are wanted, in tray order.
@@ -39,7 +31,7 @@ fn put_functions<F: Fn(AddressRange) -> bool>(s: &[u8], is_wanted: F, list: &mut
     // Stays a loop over fields: next_field says why.
     while let Some(field) = next_field(s, p) {
         if field.tag == TRAY_FUNCTION_TAG && is_wanted(AddressRange::read(field.payload(s), 0)) {
-            at = put_part(s, p, field.next, list, at);
+            at = put_bytes(list, at, &s[p..field.next]);
         }
         p = field.next;
     }

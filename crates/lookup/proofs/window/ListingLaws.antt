@@ -25,7 +25,7 @@ use Rattle.buffers.proofs.BufferLaws.{put-length, put_whole, put-lost, put-fits,
 use Rattle.lookup.specs.Tray.{FieldAt, GroupAt, fields_at, function_range, functions_at, functions_of}
 use Rattle.lookup.specs.Window.{fitting, ListAfter, listed_in, function_fields, listing}
 use Rattle.lookup.specs.Means.{StandsIn}
-use Rattle.lookup.specs.Listing.{wanted_bytes, LaidPart, Cleared}
+use Rattle.lookup.specs.Listing.{wanted_bytes, Cleared}
 use Rattle.lookup.specs.Answers.{list_given}
 use Rattle.lookup.proofs.StepLaws.{functions_from, functions-none, functions-this, functions-next, fields-this}
 use Rattle.lookup.proofs.PlaceLaws.{stand}
@@ -71,9 +71,9 @@ module _ (s : List ℕ) (test : AddressRange → Bool) (p : ℕ) where
 -- a wanted field is laid: the others are left
 pub left_laid : {all lent₀ lent lent₂ : List ℕ} {at₁ at₂ : ℕ} (s : List ℕ) (test : AddressRange → Bool) (p : ℕ) (f : FieldSpan) (g : List ℕ) (x : AddressRange) (b : Bool)
     → Left 0 all lent₀ at₁ (left_bytes test s p) lent → Some f ≡ field_from s p → f.tag ≡ 0x41 → g ≡ take f.len (drop f.start s) → x ≡ range_of g
-    → b ≡ test x → b ≡ true → LaidPart s lent lent₂ p f.next at₁ at₂ → Left 0 all lent₀ at₂ (left_bytes test s f.next) lent₂
-left_laid s test p f g x b left at q payload is h z l =
-    left-put (left_bytes test s p) (left_bytes test s f.next) left (left-this s test p f at g x b q payload is h l.bytes z) l.put
+    → b ≡ test x → b ≡ true → Bytes s → Put at₁ (take (f.next - p) (drop p s)) lent lent₂ at₂ → Left 0 all lent₀ at₂ (left_bytes test s f.next) lent₂
+left_laid s test p f g x b left at q payload is h z bytes put =
+    left-put (left_bytes test s p) (left_bytes test s f.next) left (left-this s test p f at g x b q payload is h bytes z) put
 
 -- ---- the list as a whole
 

@@ -2,6 +2,7 @@
 use native.Mathlib.Omega.{arith}
 use borrow.Author.Rules.{rules}
 use Rattle.tlv.proofs.FieldLaws.{next-within}
+use Rattle.tlv.proofs.PlaceFacts.{slice-bytes}
 use Rattle.buffers.proofs.BufferLaws.{left-start, left-same, left-done}
 use Rattle.lookup.specs.Tray.{functions_at}
 use Rattle.lookup.proofs.StepLaws.{stands-next, function-long}
@@ -16,17 +17,20 @@ loop-field-init g c = record { stands = search rules; left = λ test t. left-sta
 pub read-requires : goal.read-requires
 read-requires g c = search (rules, function-long, c.in-Some.ensures)
 
-pub put_part-at-requires-clause-p_le_next : goal.put_part-at-requires-clause-p_le_next
-put_part-at-requires-clause-p_le_next g c = part-below _ _ _ c.in-Some.ensures
+pub slice_bounds-put_bytes-count : goal.slice_bounds-put_bytes-count
+slice_bounds-put_bytes-count g c = part-below _ _ _ c.in-Some.ensures
 
-pub put_part-at-requires-clause-next_in_bounds : goal.put_part-at-requires-clause-next_in_bounds
-put_part-at-requires-clause-next_in_bounds g c = next-within _ _ _ c.in-Some.ensures
+pub slice_bounds-put_bytes-start : goal.slice_bounds-put_bytes-start
+slice_bounds-put_bytes-start g c = part-below _ _ _ c.in-Some.ensures
+
+pub slice_bounds-put_bytes-end : goal.slice_bounds-put_bytes-end
+slice_bounds-put_bytes-end g c = next-within _ _ _ c.in-Some.ensures
 
 pub loop-field-preserved-then-is_wanted : goal.loop-field-preserved-then-is_wanted
 loop-field-preserved-then-is_wanted g c = record {
   stands = search (stands-next, c.in-Some.ensures);
   left = λ test t. left_laid _ test _ _ _ _ _ (c.loop-field.invariant.left test t) c.in-Some.ensures c.if-field-eq-TRAY_FUNCTION_TAG.true c.payload.ensures
-      c.read.ensures.of_rest (t _ _ (search rules, search rules) c.is_wanted.ensures) c.if-is_wanted.true c.put_part-at.ensures;
+      c.read.ensures.of_rest (t _ _ (search rules, search rules) c.is_wanted.ensures) c.if-is_wanted.true (slice-bytes _ c.type_inv.s) c.put_bytes-at.ensures;
 }
 
 pub loop-field-preserved : goal.loop-field-preserved
