@@ -1,33 +1,33 @@
 -- A call's file and line, and the warnings about them.
-use mathlib.Core.Path.{◌≡◌, refl, sym, ap, ◌∙◌}
-use mathlib.Core.List.{List, [], ◌∷◌, ◌++◌, append-nil}
+use mathlib.Core.Path.{◌≡◌, refl, ap, ◌∙◌}
+use mathlib.Core.List.{List, [], ◌∷◌}
 use mathlib.Core.Option.{Option, none, some}
 use Prim.Native.Nat.{ℕ, ◌+◌, ◌^◌, ◌≤◌, ◌<◌}
 use native.Mathlib.Omega.{arith}
 use lib.ListN.{length}
 use borrow.Author.Tests.{lt-ltb, le-ltb}
-use Rattle.std.specs.Prelude.{Option as Maybe, Some, None}
+use Rattle.std.specs.Prelude.{Option as Maybe, Some, None, Result, Ok, Err}
 use Rattle.tlv.specs.declared.model.FileIndex.{FileIndex}
 use Rattle.tlv.specs.declared.refusal.Refusal.{Refusal}
-use Rattle.tlv.specs.Refusals
-use Rattle.tlv.specs.Outcome.{refused, done, ◌>>=◌}
+use Rattle.tlv.specs.Refusals.{status_of}
+use Rattle.tlv.specs.Outcome.{◌>>=◌}
 use Rattle.tlv.proofs.AnswerLaws.{numbered}
-use Rattle.tlv.specs.Bytes.{le_at, bytes_of}
-use Rattle.tlv.specs.Fields.{encode}
+use Rattle.tlv.specs.Bytes.{le_at}
 use Rattle.tlv.specs.Checked.{Accepted}
 use Rattle.buffers.specs.Buffer.{Put, top}
-use Rattle.buffers.specs.Output.{about, missing_inline_call_file, invalid_inline_call_line, kind_number, warning_payload, each_of, warnings_bytes}
+use Rattle.buffers.specs.Output.{about, missing_inline_call_file, invalid_inline_call_line, kind_number, each_of, warnings_bytes}
 use Rattle.buffers.proofs.BufferLaws.{put-none}
-use Rattle.buffers.proofs.OutputLaws.{put-about}
-use Rattle.access.specs.Places.{entry_here, unit_here}
-use Rattle.access.proofs.EntryPlaceLaws.{entry-offset_is, entry_depth-is, entry_tag-is}
+use Rattle.access.specs.Places.{entry_here}
+use Rattle.access.proofs.EntryPlaceLaws.{entry_depth-is, entry_tag-is}
 use Rattle.lines.specs.Files.{FileIndices, file_index, get}
 use Rattle.files.specs.Indices.{number_of}
-use Rattle.references.specs.Search.{absolute_entry_offset, unsigned_attribute, file_index_attribute}
+use Rattle.references.specs.Search.{unsigned_attribute, file_index_attribute}
 use Rattle.references.specs.Tables.{EntryKnown, number_given}
 use Rattle.references.proofs.ReferenceLaws.{entry-placed, entry-step, entry-inside}
 use Rattle.imports.specs.Tree.{DetailContext, call_file_from, call_file_of, call_line_if, call_line_of}
-use Rattle.dies.specs.Calls.{AboutWarned, FileCalled, LineCalled}
+use Rattle.references.specs.Warnings.{AboutWarned}
+use Rattle.dies.specs.Answers.{value_or}
+use Rattle.dies.specs.Calls.{FileCalled, LineCalled}
 use Rattle.dies.proofs.AttributeReads.{accepted-placed}
 
 -- no warning
@@ -41,9 +41,6 @@ module _ {s : List ℕ} {q p : ℕ} (A : Accepted s) (K : EntryKnown s q p) wher
   pub entry_read : p + 15 ≤ length s
   entry_read = entry-inside (accepted-placed A K) K
 
-  entry-offset_here : (entry_here s p).offset ≡ le_at 8 s (p + 3)
-  entry-offset_here = entry-offset_is s p _ 0x17 (p + 3) 12 (p + 15) refl (entry-step (accepted-placed A K) K) (entry-placed (accepted-placed A K) K) refl
-
   pub entry_depth-here : (entry_here s p).depth ≡ le_at 2 s (p + 11)
   entry_depth-here =
       let e : p + 3 + 8 ≡ p + 11 = omega arith in
@@ -53,30 +50,6 @@ module _ {s : List ℕ} {q p : ℕ} (A : Accepted s) (K : EntryKnown s q p) wher
   entry_tag-here =
       let e : p + 3 + 10 ≡ p + 13 = omega arith in
       entry_tag-is s p _ 0x17 (p + 3) 12 (p + 15) refl (entry-step (accepted-placed A K) K) (entry-placed (accepted-placed A K) K) refl ∙ ap (le_at 2 s) e
-
-  -- ---- a warning
-
-  same-offset : {offset : ℕ} → offset ≡ le_at 8 s (p + 3) → absolute_entry_offset (unit_here s q) (entry_here s p).offset ≡ absolute_entry_offset (unit_here s q) offset
-  same-offset eo = ap (absolute_entry_offset (unit_here s q)) (entry-offset_here ∙ sym eo)
-
-  module _ {kind number at offset : ℕ} {u : List ℕ} (eo : offset ≡ le_at 8 s (p + 3)) where
-    pub about-refused : (e : Refusal) → refused (Refusals.number_of e) ≡ absolute_entry_offset (unit_here s q) offset → AboutWarned s q p kind number at u u (Refusals.number_of e) at
-    about-refused e is = record {
-      offset = 0;
-      ok = λ z. absurd (numbered e z);
-      laid = λ z. absurd (numbered e z);
-      no = λ z. same-offset eo ∙ sym is;
-    }
-
-    pub about-put : {u' : List ℕ} {sum r : ℕ} → done sum ≡ absolute_entry_offset (unit_here s q) offset → Put at (encode 0x46 ((kind ∷ []) ++ bytes_of 8 sum ++ bytes_of 8 number)) u u' r
-        → AboutWarned s q p kind number at u u' 0 r
-    unfolding warnings_bytes each_of
-    about-put {sum = sum} is P = record {
-      offset = sum;
-      ok = λ z. same-offset eo ∙ sym is;
-      laid = λ z k known. rw (append-nil (encode 0x46 (warning_payload (about k sum number)))) (put-about k kind sum number known P);
-      no = λ z. absurd (z refl);
-    }
 
 -- ---- the file
 
@@ -113,13 +86,20 @@ module _ {is : FileIndices} {s : List ℕ} {q p at : ℕ} {u : List ℕ} (h : at
       no = λ z. absurd (z refl);
     }
 
-    pub file-warned : {u' : List ℕ} {m r : ℕ} → f ≡ None → AboutWarned s q p 8 number at u u' m r → FileCalled is s q p at u u' m (record { value = file_index 0; at = r })
+    pub file-warned : {u' : List ℕ} {y : Result ℕ Refusal} → f ≡ None → AboutWarned s q p 8 number at u u' y
+        → FileCalled is s q p at u u' (status_of y) (record { value = file_index 0; at = value_or at y })
     unfolding ◌>>=◌ kind_number
-    file-warned missing W = record {
-      warnings = about missing_inline_call_file W.offset number ∷ [];
-      laid = λ z. W.laid z missing_inline_call_file refl;
-      ok = λ z c ei eu. of_number is s p number f read found c ei ∙ rw (missing, eu, W.ok z);
-      no = λ z c ei eu. of_number is s p number f read found c ei ∙ rw (missing, eu, W.no z);
+    file-warned {y = Ok r} missing W = record {
+      warnings = about missing_inline_call_file W.is.offset number ∷ [];
+      laid = λ z. W.is.laid missing_inline_call_file refl;
+      ok = λ z c ei eu. of_number is s p number f read found c ei ∙ rw (missing, eu, W.is.is);
+      no = λ z. absurd (z refl);
+    }
+    file-warned {y = Err e} missing W = record {
+      warnings = [];
+      laid = λ z. absurd (numbered e z);
+      ok = λ z. absurd (numbered e z);
+      no = λ z c ei eu. of_number is s p number f read found c ei ∙ rw (missing, eu, W.is);
     }
 
 -- ---- the line
@@ -147,11 +127,18 @@ module _ {s : List ℕ} {q p at : ℕ} {u : List ℕ} (h : at ≤ top) (k : leng
       no = λ z. absurd (z refl);
     }
 
-    pub line-warned : {u' : List ℕ} {m r : ℕ} → 4294967296 ≤ number → AboutWarned s q p 9 number at u u' m r → LineCalled s q p at u u' m (record { value = 0; at = r })
+    pub line-warned : {u' : List ℕ} {y : Result ℕ Refusal} → 4294967296 ≤ number → AboutWarned s q p 9 number at u u' y
+        → LineCalled s q p at u u' (status_of y) (record { value = 0; at = value_or at y })
     unfolding ◌>>=◌ kind_number
-    line-warned l W = record {
-      warnings = about invalid_inline_call_line W.offset number ∷ [];
-      laid = λ z. W.laid z invalid_inline_call_line refl;
-      ok = λ z c eu. of_line s p number read c ∙ rw (le-ltb number (2 ^ 32) (omega arith), eu, W.ok z);
-      no = λ z c eu. of_line s p number read c ∙ rw (le-ltb number (2 ^ 32) (omega arith), eu, W.no z);
+    line-warned {y = Ok r} l W = record {
+      warnings = about invalid_inline_call_line W.is.offset number ∷ [];
+      laid = λ z. W.is.laid invalid_inline_call_line refl;
+      ok = λ z c eu. of_line s p number read c ∙ rw (le-ltb number (2 ^ 32) (omega arith), eu, W.is.is);
+      no = λ z. absurd (z refl);
+    }
+    line-warned {y = Err e} l W = record {
+      warnings = [];
+      laid = λ z. absurd (numbered e z);
+      ok = λ z. absurd (numbered e z);
+      no = λ z c eu. of_line s p number read c ∙ rw (le-ltb number (2 ^ 32) (omega arith), eu, W.is);
     }

@@ -1,17 +1,16 @@
 -- Contract. What the code that reads a call site's address, and a call's file and line, promises.
 use Rattle.std.specs.Prelude.{Option as Maybe, Some, None, Result, Ok, Err}
-use Rattle.std.specs.Prelude.{◌≡◌, cond, List, [], ◌∷◌, ℕ, eqb}
+use Rattle.std.specs.Prelude.{◌≡◌, cond, List, ℕ, eqb}
 use Rattle.std.proofs.Math.Option.{Option, none, some}
 use Rattle.tlv.specs.declared.refusal.Refusal.{Refusal}
 use Rattle.tlv.specs.declared.refusal.Refusal.TheVariants.{Decoder}
 use Rattle.tlv.specs.Outcome.{refused, done}
 use Rattle.tlv.specs.Model.{Attribute}
 use Rattle.buffers.specs.Buffer.{Put}
-use Rattle.buffers.specs.Output.{Warning, WarningKind, about, kind_number, warnings_bytes}
+use Rattle.buffers.specs.Output.{Warning, warnings_bytes}
 use Rattle.access.specs.declared.access.Value.{Value}
 use Rattle.access.specs.Places.{entry_here, unit_here}
 use Rattle.lines.specs.Files.{FileIndices}
-use Rattle.references.specs.Search.{absolute_entry_offset}
 use Rattle.imports.specs.Tree.{DetailContext, call_file_of, call_line_of}
 use Rattle.tlv.specs.declared.model.FileIndex.{FileIndex}
 use Rattle.dies.specs.declared.calls.Warned.{Warned}
@@ -42,13 +41,6 @@ address_in (Some v) = address_is v
 address_in None = Ok None
 
 -- ---- a call's file and line
-
--- a warning of a kind was laid, and the warnings go on at r; or the number n refuses it
-pub record AboutWarned (main : List ℕ) (unit p kind number at : ℕ) (u u' : List ℕ) (n r : ℕ) : Type 0 where
-  pub offset : ℕ
-  pub ok : n ≡ 0 → absolute_entry_offset (unit_here main unit) (entry_here main p).offset ≡ done offset
-  pub laid : n ≡ 0 → (k : WarningKind) → kind ≡ kind_number k → Put at (warnings_bytes (about k offset number ∷ [])) u u' r
-  pub no : (n ≡ 0 → ⊥) → absolute_entry_offset (unit_here main unit) (entry_here main p).offset ≡ refused n
 
 -- the file of the call of the entry at p, of a unit that has the map `is`; what else a context holds does not matter
 pub record FileCalled (is : FileIndices) (main : List ℕ) (unit p at : ℕ) (u u' : List ℕ) (n : ℕ) (r : Warned FileIndex) : Type 0 where

@@ -1,53 +1,28 @@
-// The file and the line of a call, and the warnings about an entry.
+// The file and the line of a call.
 ghost use Rattle.std.specs.Prelude.{◌+◌, ◌*◌, ◌≤◌, ◌<◌, length};
 ghost use Rattle.tlv.specs.Checked.{Accepted};
 ghost use Rattle.tlv.specs.Refusals.{status_of};
-ghost use Rattle.buffers.specs.WarningKinds.{number_of};
 ghost use Rattle.files.specs.Indices.{indices_in, index_record};
 ghost use Rattle.lines.specs.Files.{file_index};
 ghost use Rattle.references.specs.Tables.{EntryKnown};
 ghost use Rattle.dies.specs.Answers.{value_or};
-ghost use Rattle.dies.specs.Calls.{AboutWarned, FileCalled, LineCalled};
+ghost use Rattle.dies.specs.Calls.{FileCalled, LineCalled};
 
 use access::index::EntryPlace;
 use buffers::table::Stored;
 use buffers::warning::WarningKind;
 use files::index::FileNumber;
 use references::attributes::{file_index_attribute, unsigned_attribute};
-use references::ways::absolute_entry_offset;
-use tlv::bytes::Number;
+use references::warnings::warn_about;
 use tlv::constants::{DW_AT_CALL_FILE, DW_AT_CALL_LINE};
 use tlv::model::FileIndex;
 use tlv::refusal::Refusal;
-use tlv::tags::FIELD_HEAD;
-
-// Where an entry's offset in its unit stands, from its field's place on.
-const ENTRY_OFFSET: usize = FIELD_HEAD;
 
 // What was read of a call, and the place in the warnings after it.
 #[derive(Clone, Copy, Debug)]
 pub struct Warned<T> {
     pub value: T,
     pub at: usize,
-}
-
-// A warning of a kind about an entry, with a number; the place in the warnings after it.
-pub fn warn_about(
-    main: &[u8],
-    warnings: &mut [u8],
-    entry: EntryPlace,
-    kind: WarningKind,
-    number: u64,
-    at: usize,
-) -> Result<usize, Refusal>
-    requires accepted { Accepted main.now }
-    requires entry_known { EntryKnown main.now entry.unit entry.place }
-    ensures { AboutWarned main.now entry.unit entry.place (number_of kind) number at warnings.old warnings.new
-        (status_of result) (value_or at result) }
-{
-    let offset = u64::read(main, entry.place + ENTRY_OFFSET);
-    let target = absolute_entry_offset(main, entry.unit, offset)?;
-    Ok(buffers::output::put_warning(warnings, at, kind, target, number))
 }
 
 // The file of a call; a missing one warns.

@@ -8,7 +8,7 @@ use rnglists::lists::RangeLists;
 use tlv::model::{AddressRange, FileIndex};
 
 // What is the same for every subprogram of a unit: the searches' tables with the sheets, the range lists, the unit's place and its map of file numbers,
-// where the open nodes' ranges, the open and the closed call sites are put, the two switches, and whether the unit has lists.
+// where the open nodes' ranges, the open and the closed call sites are put, the two switches, and whether any entry of the main sheet names a list.
 // Stays a flag beside the lists: it tells whether an entry names one, while the section is lent in any case and the laws of its room speak of its length.
 #[derive(Clone, Copy, Debug)]
 pub struct UnitContext<'a> {
@@ -24,7 +24,7 @@ pub struct UnitContext<'a> {
     pub with_lists: bool,
 }
 
-impl<'a> UnitContext<'a> {
+impl UnitContext<'_> {
     // The entry at a place of the unit.
     pub fn entry(&self, place: usize) -> EntryPlace
         ensures { result ≡ record { place = place; unit = self.now.unit } }
@@ -37,6 +37,7 @@ impl<'a> UnitContext<'a> {
 }
 
 // .. and for every entry below a subprogram: its name, its depth and its range.
+// Stays a ghost field that the name is short, as in Node, InlinedCall and subprograms' Subprogram: a type of a short name would be taken apart at each write.
 #[derive(Clone, Copy, Debug)]
 pub struct Details<'a> {
     pub context: UnitContext<'a>,

@@ -37,7 +37,7 @@ fn has_entries(main: &[u8], p: usize, depth: u16) -> bool
     field.tag != UNIT_TAG
 }
 
-impl<'a> Details<'a> {
+impl Details<'_> {
     // The nodes and the call sites of the function, from the entries that follow place p and are deeper than it.
     // Stays with three slices: close, make_call_site, put_sites and keep_node are lent one or two, or `work` only to be read, and would take a struct apart.
     fn collect_descendants(

@@ -2,8 +2,7 @@
 ghost use Rattle.std.specs.Prelude.{◌≡◌, ◌+◌, ◌^◌, ◌<◌};
 ghost use Rattle.dies.specs.FrameStack.{Ready, Empty, Popped, Top, grown};
 
-// How many nodes can lie within one another: the depth of the deepest.
-pub const DEEPEST_NODE: usize = 256;
+use buffers::output::DEEPEST_NODE;
 
 // An open node: the depth of its entry, and where its ranges begin in the stack of ranges.
 #[derive(Clone, Copy, Debug)]
@@ -43,7 +42,7 @@ impl Open {
         ensures popped { Popped self.old self.new depth }
         ensures frames_stay { self.new.frames ≡ self.old.frames }
     {
-        // Stays a loop: of `find` over a range that is reversed std's lemmas say nothing.
+        // Stays a loop: `position` over the frames reversed would leave a test for none closed, and the last frame would be read again.
         for i in (0..self.count).rev() {
             let frame = self.frames[i];
             if frame.depth < depth {

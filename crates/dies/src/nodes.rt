@@ -12,9 +12,9 @@ ghost use Rattle.dies.specs.DetailState.{FitsAt, OwnRanges, Steps, lead_bytes};
 
 use crate::calls::{call_file, call_line};
 use crate::details::Details;
-use crate::frames::DEEPEST_NODE;
 use crate::past::node_past;
 use crate::walk::Walk;
+use buffers::output::DEEPEST_NODE;
 use buffers::table::Stored;
 use ranges::inlined::inline_ranges;
 use ranges::ranges::{RANGE_RECORD, RangeNest, RangeTable};
@@ -58,6 +58,7 @@ fn check_inline_depth(depth: usize) -> bool
 }
 
 // An inlined call that is kept: the place of its entry, its name, and how many merged ranges it has, which stand above the stack of ranges.
+// Stays a count: where the ranges begin follows from the open nodes, so a `Stored` would come with a clause that it begins there.
 #[derive(Clone, Copy, Debug)]
 struct InlinedCall<'a> {
     place: usize,
@@ -67,7 +68,7 @@ struct InlinedCall<'a> {
     ghost some: { 0 < range_count },
 }
 
-impl<'a> Details<'a> {
+impl Details<'_> {
     // The root, which bears the function's name and range, before the first node.
     fn put_root(&self, records: &mut [u8], at: usize, nodes: usize) -> usize
         ensures { Put at (lead_bytes self.now.name.now self.now.range nodes) records.old records.new result }

@@ -2,14 +2,15 @@
 ghost use Rattle.std.specs.Prelude.{◌≡◌, ◌^◌, ◌≤◌, ◌<◌};
 ghost use Rattle.dies.specs.Past.{is_past, node_size};
 
+use buffers::output::{TRAY_NODE, TRAY_RANGE, TRAY_SITE};
 use tlv::tags::FIELD_HEAD;
 
 // The fewest bytes of a node's, a range's and a call site's field in the records: those of one with no name.
-const NODE_LEAST: usize = FIELD_HEAD + 10;
+const NODE_LEAST: usize = FIELD_HEAD + TRAY_NODE as usize;
 
-const RANGE_LEAST: usize = FIELD_HEAD + 16;
+const RANGE_LEAST: usize = FIELD_HEAD + TRAY_RANGE as usize;
 
-pub const SITE_LEAST: usize = FIELD_HEAD + 9;
+pub const SITE_LEAST: usize = FIELD_HEAD + TRAY_SITE as usize;
 
 // Whether so many bytes from a place on do.
 pub fn is_past(at: usize, size: usize) -> bool

@@ -35,7 +35,7 @@ const OPEN_PLACE: usize = 2;
 pub const OPEN_SITE: usize = OPEN_PLACE + CLOSED_SITE;
 
 // The place in the records after the call sites, and whether they pass the largest place.
-// Stays with the two side by side, as Walk, Extracted and subprograms' ImportState have them: the definitions speak of each apart.
+// Stays with the two side by side, as Walk, Extracted and ImportState: past the largest place the walk goes on from it, so it is no Option.
 #[derive(Clone, Copy, Debug)]
 pub struct LaidSites {
     pub at: usize,
@@ -111,7 +111,7 @@ impl Sites {
     }
 }
 
-impl<'a> Details<'a> {
+impl Details<'_> {
     // A call site: its return address is to lie in the function. The name that its origin refers to is searched here only for a refusal.
     pub(crate) fn make_call_site(
         &self,

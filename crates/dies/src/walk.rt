@@ -29,7 +29,7 @@ pub struct Walk {
     pub past: bool,
 }
 
-impl<'a> Details<'a> {
+impl Details<'_> {
     // Closes the nodes and the call sites of entries at this depth or deeper.
     pub(crate) fn close(&self, work: &mut [u8], walk: &mut Walk, depth: u16)
         requires details_in { DetailsIn (main_of self.now) (supplementary_of self.now) work.old self.now }
