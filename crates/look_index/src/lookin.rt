@@ -20,19 +20,12 @@ fn boundary(extents: Extents, address: u64) -> usize
 }
 
 // The last of the extents that start at or below the address, if it holds it.
+// Stays beside symbols' `holds_apart`, over another table, as `Extents` says: this tells which extent holds the address, that whether a range does.
 fn by_search(extents: Extents, address: u64) -> Option<usize>
     ensures { SearchedBy extents.entry.index.now extents.entry.count address result }
 {
-    let past = boundary(extents, address);
-    if past == 0 {
-        return None;
-    }
-    let last = past - 1;
-    if address < extents.at(last).range.end {
-        Some(last)
-    } else {
-        None
-    }
+    let last = boundary(extents, address).checked_sub(1)?;
+    (address < extents.at(last).range.end).then_some(last)
 }
 
 // The first extent that holds the address.

@@ -1,18 +1,16 @@
 -- Tables of ranges: those of a tray merged, one range more, whether an address is held.
 use mathlib.Core.Path.{◌≡◌, sym, ap, subst, ◌∙◌}
-use mathlib.Core.Bool.{Bool, true, false, not, true≢false, false≢true}
+use mathlib.Core.Bool.{Bool, true, false, true≢false}
 use mathlib.Core.Logic.{◌⊎◌, inl, inr, ⊎_elim, ◌↔◌}
 use mathlib.Core.List.{List, [], ◌∷◌, ◌++◌}
 use Prim.Native.Nat.{ℕ, ◌+◌, ◌-◌, ◌*◌, ◌≤◌}
 use native.Mathlib.Omega.{arith}
 use lib.ListN.{length}
-use borrow.Author.Tests.{not-true, not-false}
 use Rattle.tlv.specs.declared.model.AddressRange.{AddressRange}
 use Rattle.tlv.specs.Addresses.{Nonempty}
 use Rattle.tlv.specs.Lists.{All, exists}
 use Rattle.tlv.proofs.ListLaws.{all_append}
-use Rattle.buffers.specs.Table.{Kept}
-use Rattle.imports.specs.Ranges.{Holds, Apart, coalesce_ranges}
+use Rattle.imports.specs.Ranges.{Holds, coalesce_ranges}
 use Rattle.imports.proofs.RangeLaws.{merge-holds}
 use Rattle.buffers.specs.Table.{PutRange}
 use Rattle.ranges.specs.RangeTable.{ranges_at, Added, MergedAt}
@@ -21,7 +19,7 @@ use Rattle.ranges.proofs.InsertLaws.{apart-nonempty}
 use Rattle.lookup.specs.Lookup.{holds}
 use Rattle.lookup.proofs.DemandLaws.{some_holds}
 use Rattle.symbols.specs.declared.extents.RangeTables.{RangeTables}
-use Rattle.std.specs.Prelude.{Option, Some, None}
+use Rattle.std.specs.Prelude.{Some}
 use Rattle.symbols.specs.Walk.{ranges_in}
 use Rattle.symbols.specs.Extents.{Lying, HeldIn, Known, GatheredIn, Remembered}
 use Rattle.symbols.proofs.SoughtLaws.{exists-holds, same_test}

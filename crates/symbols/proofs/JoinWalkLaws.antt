@@ -3,11 +3,10 @@ use mathlib.Core.Path.{◌≡◌, refl, sym, ap, subst, ◌∙◌}
 use mathlib.Core.Bool.{Bool, true, false, cond, ◌||◌}
 use mathlib.Core.List.{List, [], ◌∷◌, map}
 use mathlib.Core.Option.{none, some, none-ne-some}
-use Prim.Native.Nat.{ℕ, zero, suc, ◌+◌, ◌-◌, ◌≤◌}
+use Prim.Native.Nat.{ℕ, ◌+◌, ◌-◌, ◌≤◌}
 use native.Mathlib.Omega.{arith}
 use lib.Dec.{eqb}
 use lib.ListN.{length, take, drop, length-drop}
-use lib.Seq.{drop-drop, length-take-le}
 use borrow.Author.Tests.{eq-eqb, ne_eqb}
 use Rattle.std.specs.Prelude.{Option, Some, None}
 use Rattle.std.specs.Option.{is_some}
@@ -16,16 +15,15 @@ use Rattle.tlv.specs.declared.model.AddressRange.{AddressRange}
 use Rattle.tlv.specs.Lists.{exists, first, is_empty}
 use Rattle.tlv.specs.Bytes.{le_at}
 use Rattle.tlv.specs.Fields.{encode}
-use Rattle.tlv.proofs.ShapeLaws.{number_at, number-first}
 use Rattle.buffers.specs.Buffer.{Put}
 use Rattle.buffers.specs.Output.{function_payload}
 use Rattle.buffers.proofs.BufferLaws.{put_as}
 use Rattle.lookup.specs.declared.address.FunctionPlace.{FunctionPlace}
 use Rattle.lookup.specs.Tray.{functions_at, function_range}
 use Rattle.lookup.specs.Lookup.{holds}
-use Rattle.lookup.specs.Walk.{FunctionFound, Stands}
+use Rattle.lookup.specs.Walk.{FunctionFound}
 use Rattle.symbols.specs.Symbols.{Symbol, symbol_of, passed_over}
-use Rattle.symbols.specs.Walk.{ranges_in, laid_for, Standing}
+use Rattle.symbols.specs.Walk.{ranges_in, laid_for}
 
 -- ---- is a start held
 

@@ -3,11 +3,10 @@ use mathlib.Core.Path.{◌≡◌, refl, sym, ap, subst, ◌∙◌}
 use mathlib.Core.Bool.{Bool, true, false, cond, ◌&&◌, true≢false}
 use mathlib.Core.Logic.{◌⊎◌, inl, inr, ◌↔◌}
 use mathlib.Core.List.{List, [], ◌∷◌, ◌++◌}
-use Prim.Native.Nat.{ℕ, zero, suc, ◌+◌, ◌-◌, ◌*◌, ◌/◌, ◌≤◌, ◌<◌}
+use Prim.Native.Nat.{ℕ, zero, suc, ◌+◌, ◌-◌, ◌*◌, ◌≤◌, ◌<◌}
 use native.Mathlib.Omega.{arith}
 use native.Mathlib.Decide.{dec_le}
 use lib.Dec.{leb, ltb}
-use lib.ListN.{drop}
 use borrow.Author.Tests.{ltb-true, ltb-false, le-leb, lt-leb, lt-ltb, le-ltb}
 use Rattle.tlv.specs.declared.model.AddressRange.{AddressRange}
 use Rattle.tlv.specs.Lists.{exists}
@@ -15,7 +14,7 @@ use Rattle.tlv.specs.Model.{range_of}
 use Rattle.buffers.specs.Table.{chunk, tab, records}
 use Rattle.imports.specs.Ranges.{Holds, Above, Apart}
 use Rattle.ranges.specs.RangeTable.{ranges_at}
-use Rattle.ranges.proofs.RangeTableLaws.{ranges-end, ranges-cons, ranges-add}
+use Rattle.ranges.proofs.RangeTableLaws.{ranges-add}
 use Rattle.lookup.specs.Lookup.{holds}
 use Rattle.lookup.proofs.DemandLaws.{some_holds}
 

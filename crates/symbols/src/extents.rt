@@ -41,6 +41,7 @@ fn holds_apart(table: RangeTable, address: u64) -> bool
 }
 
 // The ranges of a tray's functions, as they come, and their number; none where they have no room.
+// Stays beside look_index's `put_extents`: that writes the place of each field too, and counts on where this gives up.
 fn gather_functions(s: &[u8], work: &mut [u8]) -> Option<usize>
     requires { Stands s.now 0 }
     ensures { GatheredIn s.now work.new result }

@@ -24,7 +24,7 @@ pub fn check_symbols(s: &[u8]) -> bool
     ensures { SymbolsChecked s.now result }
 {
     let mut p: usize = 0;
-    // Stays a loop over fields: next_field says why.
+    // Stays a loop over fields: next_field says why, and tlv's check_input why it goes by the bytes that are left.
     while p < s.len() {
         let Some(field) = next_field(s, p) else {
             return false;

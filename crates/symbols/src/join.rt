@@ -60,7 +60,7 @@ fn join_symbol(
     ensures { Put at (laid_for (ranges_in (take at res.old)) (symbol_of payload.now)) res.old res.new result }
 {
     let range = symbol_range(payload);
-    // Stays beside `is_empty`: a symbol's size is asked for, as the definition asks; that its end is not below its start would be shown for nothing else.
+    // Stays beside `is_empty`: the definition asks whether both ends are equal, and that the end isn't below the start would be shown for that alone.
     let empty = range.start == range.end;
     let nameless = payload.len() == SYMBOL_SIZE;
     if empty || nameless || is_held_with(res, at, range.start, work, tables) {
@@ -103,6 +103,7 @@ fn join_all(
 }
 
 // The join, with the tables in work; the byte length of the result.
+// Stays with what is lent apart, as the two below: C lends each so, and learn and join_all take some of them.
 fn join_in(
     records: &[u8],
     symbols: &[u8],

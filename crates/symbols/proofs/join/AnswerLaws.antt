@@ -4,7 +4,7 @@ use mathlib.Core.Bool.{Bool, true, false, not}
 use mathlib.Core.List.{List, ◌++◌}
 use Prim.Native.Nat.{ℕ, ◌+◌, ◌-◌, ◌≤◌, ◌<◌}
 use native.Mathlib.Omega.{arith}
-use lib.ListN.{length, take, drop, replicate, length-append}
+use lib.ListN.{length, take, drop, length-append}
 use lib.Seq.{take_at, drop-drop, drop_at}
 use borrow.Author.Tests.{lt-ltb, le-ltb, not-true, not-false}
 use Rattle.tlv.specs.Outcome.{refused, ◌>>=◌}
@@ -20,8 +20,8 @@ use Rattle.tlv.specs.declared.refusal.Refusal.{Refusal}
 use Rattle.tlv.specs.Refusals.{number_of}
 use Rattle.symbols.specs.declared.extents.RangeTables.{RangeTables}
 use Rattle.symbols.specs.Extents.{Known}
-use Rattle.symbols.specs.Symbols.{symbols_form, joined, join_symbols}
-use Rattle.symbols.specs.Answers.{join_given, SymbolsChecked, JoinsWith}
+use Rattle.symbols.specs.Symbols.{joined, join_symbols}
+use Rattle.symbols.specs.Answers.{join_given, SymbolsChecked}
 use Rattle.symbols.specs.Walk.{ranges_in, whole_from, Standing, AllJoined}
 
 module _ (tray list result : List ℕ) where

@@ -19,7 +19,6 @@ use Rattle.tlv.specs.Checked.{field_in}
 use Rattle.tlv.proofs.TestLaws.{and_left, and_right}
 use Rattle.tlv.proofs.ListLaws.{all_drop}
 use Rattle.tlv.proofs.FieldLaws.{at-none, fields-field}
-use Rattle.tlv.proofs.ShapeLaws.{part_length, number_at, number-first}
 use Rattle.buffers.specs.Buffer.{overlay, Put}
 use Rattle.buffers.specs.Output.{each_of}
 use Rattle.buffers.specs.Fits.{Short}
