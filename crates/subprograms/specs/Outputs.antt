@@ -3,6 +3,7 @@ use Rattle.std.specs.Prelude.{◌≡◌, ℕ, length, replicate}
 use Rattle.subprograms.specs.declared.model.Outputs.{Outputs}
 
 -- the same three output buffers, each as long as before
+-- Stays a clause: it is of the buffers before and after a call, and no type of one value holds both.
 pub record SameOutputs (t u : Outputs) : Type 0 where
   pub records : u.records.ghost_name ≡ t.records.ghost_name
   pub files : u.files.ghost_name ≡ t.files.ghost_name

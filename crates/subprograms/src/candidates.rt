@@ -15,11 +15,12 @@ use crate::text::{is_live_range, is_tombstone};
 use access::access::next_own;
 use buffers::output::{put_malformed_ranges, put_warning};
 use buffers::warning::WarningKind;
-use ranges::ranges::{RANGE_RECORD, RangeTable};
+use ranges::ranges::RangeTable;
 use tlv::bytes::Number;
 use tlv::fields::next_field;
 use tlv::model::AddressRange;
 use tlv::refusal::Refusal;
+use tlv::shapes::{FAILURE_REASON, RANGE_TOMBSTONE};
 use tlv::tags::{ENTRY_TAG, ENTRY_WHOLE, FAILURE_TAG, RANGE_TAG, UNIT_TAG};
 
 // The flag of a dead range, which stands behind its addresses.
@@ -112,7 +113,7 @@ impl ImportContext<'_> {
         // Stays a loop over fields: next_field says why.
         while let Some(field) = next_own(main, at, RANGE_TAG) {
             let range = AddressRange::read(main, field.start);
-            let dead = u8::read(main, field.start + RANGE_RECORD) == DEAD;
+            let dead = u8::read(main, field.start + RANGE_TOMBSTONE) == DEAD;
             below = next_entry(main, below);
             let mut known = subprogram;
             known.below = below;
@@ -143,7 +144,7 @@ impl ImportContext<'_> {
             return self.import_ranges(subprogram, work, outputs, state);
         };
         let failure = field.payload(main);
-        let reason = &failure[1..];
+        let reason = &failure[FAILURE_REASON..];
         if u8::read(main, field.start) == 0 {
             state.warned = put_malformed_ranges(outputs.warnings, state.warned, false, reason);
             return Ok(state.rejected());

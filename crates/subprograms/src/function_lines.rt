@@ -17,23 +17,24 @@ ghost use Rattle.subprograms.specs.Outputs.{SameOutputs};
 ghost use Rattle.subprograms.specs.Steps.{lines_bytes, sequence_in, SequenceWarned, function_lines, declared_line, LinesTo};
 
 use crate::model::{ImportContext, ImportState, Outputs};
-use access::access::{Value, attribute};
+use access::access::Value;
 use access::index::EntryPlace;
 use buffers::output::{TRAY_ROW, put_line};
 use buffers::table::Stored;
 use buffers::warning::WarningKind;
 use declarations::declaration_lines::resolve_declaration_line;
 use declarations::declaring::{DeclaringState, Places};
-use dies::calls::warn_about;
+use references::attributes::attribute_at;
 use references::trails::Trail;
+use references::warnings::warn_about;
 use rnglists::sizes::AddressSize;
 use rows::line::{ENTRY_SIZE, entry_at};
-use rows::unit_lines::for_range;
 use tlv::bytes::Number;
 use tlv::constants::DW_AT_LLVM_STMT_SEQUENCE;
 use tlv::model::{AddressRange, LineEntry};
 use tlv::refusal::Refusal;
-use tlv::tags::{ENTRY_WHOLE, FIELD_HEAD, UNIT_WHOLE};
+use tlv::shapes::UNIT_WORD;
+use tlv::tags::FIELD_HEAD;
 
 // The state after a function's rows, and how many these are.
 #[derive(Clone, Copy, Debug)]
@@ -42,16 +43,13 @@ pub struct FoundLines {
     pub count: usize,
 }
 
-// Where the size of a unit's word stands: at the end of the unit's field.
-const WORD_SIZE: usize = UNIT_WHOLE - 1;
-
 // The largest number of a unit's word, which asks for no sequence.
 fn no_sequence(main: &[u8], unit: usize) -> u64
     requires accepted { Accepted main.now }
     requires unit_in { UnitIn main.now unit }
     ensures { result ≡ 2 ^ (8 * (unit_here main.now unit).word_size) - 1 }
 {
-    AddressSize::of(u8::read(main, unit + WORD_SIZE)).largest()
+    AddressSize::of(u8::read(main, unit + FIELD_HEAD + UNIT_WORD)).largest()
 }
 
 // The sequence that a number requests; the number `limit` requests none.
@@ -81,7 +79,7 @@ pub fn statement_sequence_offset(main: &[u8], entry: EntryPlace) -> Option<u64>
     ensures { sequence_of result ≡ statement_sequence_offset (unit_here main.now entry.unit) (entry_here main.now entry.place) }
 {
     let limit = no_sequence(main, entry.unit);
-    let value = attribute(main, entry.place + ENTRY_WHOLE, DW_AT_LLVM_STMT_SEQUENCE);
+    let value = attribute_at(main, entry, DW_AT_LLVM_STMT_SEQUENCE);
     sequence_in(limit, value)
 }
 
@@ -205,7 +203,7 @@ impl ImportContext<'_> {
         let main = self.context.tables.sheets.main;
         let entry = self.context.entry(p);
         let requested = statement_sequence_offset(main, entry);
-        let own = for_range(work, self.lines, range, requested);
+        let own = self.lines.for_range(work, range, requested);
         state.warned = warn_sequence(
             main,
             outputs.warnings,

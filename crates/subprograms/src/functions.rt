@@ -10,17 +10,16 @@ ghost use Rattle.subprograms.specs.Steps.{below_entry, DetailsTo, ImportsTo};
 
 use crate::function_lines::FoundLines;
 use crate::model::{ImportContext, ImportState, Outputs, Subprogram};
-use buffers::output::put_function;
+use buffers::output::{TRAY_FUNCTION, put_function};
 use dies::details::Details;
 use dies::past::is_past;
-use ranges::ranges::RANGE_RECORD;
 use tlv::bytes::Number;
 use tlv::model::AddressRange;
 use tlv::refusal::Refusal;
 use tlv::tags::{ENTRY_DEPTH, FIELD_HEAD};
 
 // Bytes of a record's head besides the name.
-const HEAD_LEAST: usize = FIELD_HEAD + RANGE_RECORD;
+const HEAD_LEAST: usize = FIELD_HEAD + TRAY_FUNCTION as usize;
 
 impl ImportContext<'_> {
     // The nodes and call sites of a record whose rows are written, and its count.

@@ -1,14 +1,13 @@
 // Range lists of subprograms (document 02, E9).
-ghost use Rattle.std.specs.Prelude.{◌≡◌, true, false};
-ghost use Rattle.tlv.specs.Tags.{list_tag, tray_warning_tag};
+ghost use Rattle.std.specs.Prelude.{◌≡◌, true};
+ghost use Rattle.tlv.specs.Tags.{tray_warning_tag};
 ghost use Rattle.tlv.specs.Fields.{encode};
 ghost use Rattle.tlv.specs.Checked.{Placed};
+ghost use Rattle.tlv.specs.Refusals.{number_of};
 ghost use Rattle.buffers.specs.Buffer.{Put};
 ghost use Rattle.buffers.specs.Output.{warning_payload, malformed_ranges};
-ghost use Rattle.access.specs.Access.{NextOwn};
 ghost use Rattle.access.specs.Places.{entry_here};
 ghost use Rattle.rnglists.specs.RangeLists.{decimal};
-ghost use Rattle.ranges.specs.RangeTable.{own_lists};
 ghost use Rattle.subprograms.specs.Contexts.{ContextIn, main_of, supplementary_of, context_now};
 ghost use Rattle.subprograms.specs.Entries.{SubprogramIn};
 ghost use Rattle.subprograms.specs.Outputs.{SameOutputs};
@@ -16,14 +15,13 @@ ghost use Rattle.subprograms.specs.Steps.{RejectsList, below_entry, import_liste
 
 use crate::candidates::next_entry;
 use crate::model::{ImportContext, ImportState, Outputs, Subprogram};
-use access::access::next_own;
 use buffers::output::put_malformed_ranges;
 use rnglists::lists::ListField;
-use tlv::fields::FieldSpan;
 use tlv::refusal::Refusal;
-use tlv::tags::LIST_TAG;
 
 // The warning of a list's fault, whose reason is its number in decimal.
+// Stays digits by hand: std says nothing of the bytes that `write!` leaves in a slice. itoa does, but its text is `decimal n` only below 100, which a clause
+// would have to say, and no crate from outside but std is used here.
 fn put_fault(warnings: &mut [u8], at: usize, n: u8) -> usize
     ensures { Put at (encode tray_warning_tag (warning_payload (malformed_ranges true (decimal n)))) warnings.old
         warnings.new result }
@@ -37,24 +35,11 @@ fn put_fault(warnings: &mut [u8], at: usize, n: u8) -> usize
 }
 
 // The state after the fault of a list, which warns and is one rejected range.
-fn reject_list(warnings: &mut [u8], mut state: ImportState, n: u8) -> ImportState
-    ensures { RejectsList state n warnings.old warnings.new result }
+fn reject_list(warnings: &mut [u8], mut state: ImportState, fault: Refusal) -> ImportState
+    ensures { RejectsList state (number_of fault) warnings.old warnings.new result }
 {
-    state.warned = put_fault(warnings, state.warned, n);
+    state.warned = put_fault(warnings, state.warned, fault.number());
     state.rejected()
-}
-
-// The field 1f of the entry whose fields begin at a place; it is looked for only where the main sheet has one.
-// Stays beside the same look in `ranges::inlined::inline_ranges`: one function for both would spare that one an `if`, and ask it for these two facts again.
-pub fn list_field(main: &[u8], with_lists: bool, at: usize) -> Option<FieldSpan>
-    requires placed { Placed main.now at }
-    requires listless { with_lists ≡ false → own_lists main.now at ≡ 0 }
-    ensures { NextOwn main.now at list_tag result }
-{
-    if with_lists {
-        return next_own(main, at, LIST_TAG);
-    }
-    None
 }
 
 impl ImportContext<'_> {
@@ -88,7 +73,7 @@ impl ImportContext<'_> {
                 .next_range(list.addresses, list.size, at, base)
             {
                 Ok(None) => return Ok(state),
-                Err(e) => return Ok(reject_list(outputs.warnings, state, e.number())),
+                Err(fault) => return Ok(reject_list(outputs.warnings, state, fault)),
                 Ok(Some(given)) => {
                     state = self.import_candidate(
                         known,

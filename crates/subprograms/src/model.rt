@@ -39,6 +39,7 @@ impl ConversionStats {
 
 // What is the same for every subprogram of a unit: what the walk below each is given, the unit's lines and its executable ranges, and the place and the
 // bytes of the room for another unit that a declaration leads to.
+// Stays a place and a size, as declarations' Places: it is room for two tables that are still to be made, so there is no count of a `Stored`.
 #[derive(Clone, Copy, Debug)]
 pub struct ImportContext<'a> {
     pub context: UnitContext<'a>,
@@ -65,7 +66,7 @@ pub struct Outputs<'a> {
     pub warnings: &'a mut [u8],
 }
 
-impl<'a> Outputs<'a> {
+impl Outputs<'_> {
     // All three hold a byte only.
     pub fn fill(&mut self, byte: u8)
         ensures { Filled byte self.old self.new }

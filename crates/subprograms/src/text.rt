@@ -14,6 +14,7 @@ use tlv::model::AddressRange;
 use tlv::tags::{TEXT_TAG, UNIT_WHOLE};
 
 // Writes the executable ranges of the unit at a place from `base` on.
+// Stays beside files' index_directories: alike is the walk; one for both would take the tag, the record's write and its law, more than this loop.
 pub fn index_text(main: &[u8], place: usize, work: &mut [u8], base: usize) -> Stored<AddressRange>
     requires placed { Placed main.now 0 }
     requires unit_in { UnitIn main.now place }

@@ -12,8 +12,8 @@ ghost use Rattle.subprograms.specs.Entries.{FieldsKnown, SubprogramIn};
 ghost use Rattle.subprograms.specs.Outputs.{SameOutputs};
 ghost use Rattle.subprograms.specs.Steps.{below_entry, import_entry, ImportsTo};
 
-use crate::lists::list_field;
 use crate::model::{ImportContext, ImportState, Outputs, Subprogram};
+use ranges::inlined::list_field;
 use references::names::{found_name, resolve_name};
 use rnglists::lists::ListField;
 use tlv::bytes::Number;

@@ -2,21 +2,22 @@
 use mathlib.Core.Path.{◌≡◌, refl, sym, ap, ◌∙◌}
 use mathlib.Core.Logic.{◌⊎◌, inl, inr, ⊎_elim}
 use mathlib.Core.Bool.{Bool, true, false, cond, not, ◌||◌}
-use mathlib.Core.List.{List, [], ◌∷◌, map}
+use mathlib.Core.List.{List, [], ◌∷◌}
 use mathlib.Core.Option.{Option, none, some}
 use Prim.Native.Nat.{ℕ, ◌+◌, ◌-◌, ◌*◌, ◌^◌, ◌≤◌, ◌<◌}
 use native.Mathlib.Omega.{arith}
 use lib.Dec.{eqb}
 use lib.ListN.{length, take, drop}
 use borrow.Author.Tests.{eqb-true}
-use Rattle.std.specs.Prelude.{Option as Maybe, Some, None}
+use Rattle.std.specs.Prelude.{Option as Maybe, Some, None, Result, Ok, Err}
+use Rattle.tlv.specs.declared.refusal.Refusal.{Refusal}
+use Rattle.tlv.specs.Refusals.{status_of}
+use Rattle.tlv.proofs.AnswerLaws.{numbered}
 use Rattle.tlv.specs.Outcome.{done, ◌>>=◌}
 use Rattle.tlv.specs.Bytes.{le_at}
-use Rattle.tlv.specs.Lists.{first}
-use Rattle.tlv.specs.Fields.{fields, payloads}
 use Rattle.tlv.specs.Cursor.{step_at}
 use Rattle.tlv.specs.Grammar.{may_follow, unit_shaped, payload_shaped, shaped}
-use Rattle.tlv.specs.Model.{CompilationUnit, Attribute, attribute_of}
+use Rattle.tlv.specs.Model.{CompilationUnit, Attribute}
 use Rattle.tlv.specs.Checked.{Accepted}
 use Rattle.tlv.proofs.TestLaws.{and_left, and_right, or_either}
 use Rattle.tlv.proofs.ShapeLaws.{number_at}
@@ -25,8 +26,8 @@ use Rattle.buffers.specs.Buffer.{top}
 use Rattle.buffers.specs.Output.{kind_number, about, invalid_statement_sequence, each_of, warnings_bytes}
 use Rattle.buffers.proofs.BufferLaws.{put-none}
 use Rattle.access.specs.declared.access.Value.{Value}
-use Rattle.access.specs.Places.{own_fields, entry_here, unit_here}
-use Rattle.access.specs.Access.{Meaning, absent, unsigned, file_number, text, unit_reference, section_reference, supplementary_reference, section_offset, line_offset, address, failed, is_named, value_of, meaning_of, said, Says}
+use Rattle.access.specs.Places.{entry_here, unit_here}
+use Rattle.access.specs.Access.{Meaning, absent, unsigned, file_number, text, unit_reference, section_reference, supplementary_reference, section_offset, line_offset, address, failed, value_of, meaning_of, said, Says}
 use Rattle.access.proofs.IndexModel.{either}
 use Rattle.access.proofs.UnitFacts.{unit-word_size}
 use Rattle.files.specs.Pieces.{UnitPlaced}
@@ -38,11 +39,9 @@ use Rattle.rows.specs.Stored.{sequence_of}
 use Rattle.collect.specs.Collects.{UnitIn}
 use Rattle.collect.proofs.HeaderPlaces.{unit-stands}
 use Rattle.references.specs.Search.{attribute}
-use Rattle.references.specs.Tables.{EntryKnown}
-use Rattle.references.proofs.ReferenceLaws.{attribute-says}
 use Rattle.imports.specs.Import.{sequence_if, statement_sequence_offset, sequence_warning}
-use Rattle.dies.specs.Calls.{AboutWarned}
-use Rattle.dies.proofs.AttributeReads.{accepted-placed}
+use Rattle.references.specs.Warnings.{AboutWarned}
+use Rattle.dies.specs.Answers.{value_or}
 use Rattle.subprograms.specs.Steps.{sequence_in, SequenceWarned}
 
 -- ---- the size of a unit's word
@@ -54,29 +53,26 @@ module _ {s : List ℕ} {q : ℕ} (A : Accepted s) (U : UnitIn s q) where
   pub word-within : q + 21 ≤ length s
   word-within = unit-within stands
 
-  word-place : le_at 1 s (q + 3 + 17) ≡ le_at 1 s (q + 20)
-  word-place = let e : q + 3 + 17 ≡ q + 20 = omega arith in ap (le_at 1 s) e
-
-  word-here : (unit_here s q).word_size ≡ le_at 1 s (q + 20)
-  word-here = unit-word_size s q (step_at s q) 0x10 (q + 3) 18 (q + 21) refl stands.is stands.placed refl ∙ word-place
+  word-here : (unit_here s q).word_size ≡ le_at 1 s (q + 3 + 17)
+  word-here = unit-word_size s q (step_at s q) 0x10 (q + 3) 18 (q + 21) refl stands.is stands.placed refl
 
   -- the grammar has words of 4 and of 8 bytes
-  word-is : (le_at 1 s (q + 20) ≡ 4) ⊎ (le_at 1 s (q + 20) ≡ 8)
+  word-is : (le_at 1 s (q + 3 + 17) ≡ 4) ⊎ (le_at 1 s (q + 3 + 17) ≡ 8)
   unfolding shaped payload_shaped unit_shaped
   word-is =
-      let n = le_at 1 s (q + 20) in
+      let n = le_at 1 s (q + 3 + 17) in
       let shape : payload_shaped stands.placed.context 0x10 (take 18 (drop (q + 3) s)) ≡ true =
       and_right (may_follow stands.placed.context.previous 0x10) (payload_shaped stands.placed.context 0x10 (take 18 (drop (q + 3) s)))
       (placed-shaped s q (step_at s q) 0x10 (q + 3) 18 (q + 21) stands.placed refl stands.is) in
-      let all = rw (number_at s (q + 3) 18 1 17 (le_at 1 s (q + 20)) (omega arith) (sym word-place)) at shape in
+      let all = rw (number_at s (q + 3) 18 1 17 (le_at 1 s (q + 3 + 17)) (omega arith) refl) at shape in
       let word : (eqb n 4 || eqb n 8) ≡ true = search (and_left, and_right) in
       ⊎_elim (λ e. inl (eqb-true n 4 e)) (λ e. inr (eqb-true n 8 e)) (or_either (eqb n 4) (eqb n 8) word)
 
   -- .. and their largest numbers are those of an address of the size
-  pub word-size : {n : ℕ} → n ≡ le_at 1 s (q + 20) → (n ≡ 4) ⊎ (n ≡ 8)
+  pub word-size : {n : ℕ} → n ≡ le_at 1 s (q + 3 + 17) → (n ≡ 4) ⊎ (n ≡ 8)
   word-size e = rw e word-is
 
-  pub word-limit : {n r : ℕ} (size : AddressSize) → n ≡ le_at 1 s (q + 20) → width_of size ≡ n → r ≡ largest (width_of size)
+  pub word-limit : {n r : ℕ} (size : AddressSize) → n ≡ le_at 1 s (q + 3 + 17) → width_of size ≡ n → r ≡ largest (width_of size)
       → r ≡ 2 ^ (8 * (unit_here s q).word_size) - 1
   unfolding largest
   word-limit size e wide is = let w : (unit_here s q).word_size ≡ width_of size = word-here ∙ sym e ∙ sym wide in rw w is
@@ -129,14 +125,13 @@ meaning-sequence u (some a) =
     either (eqb a.kind 9) (λ y. rw (eqb-true a.kind 9 y)) (λ n9.
     rw (n1, n2, n3, n4, n5, n6, n7, n8, n9))))))))))
 
-module _ {s : List ℕ} {q p limit : ℕ} {v : Maybe Value} (A : Accepted s) (K : EntryKnown s q p)
-    (says : Says s v (meaning_of (first (is_named 0x3e0c) (map attribute_of (payloads 0x18 (own_fields (fields (drop (p + 15) s))))))))
+module _ {s : List ℕ} {limit : ℕ} {v : Maybe Value} (q p : ℕ) (says : Says s v (meaning_of (attribute (entry_here s p) 0x3e0c)))
     (most : limit ≡ 2 ^ (8 * (unit_here s q).word_size) - 1) where
   pub sequence-read : {x : Option ℕ} → x ≡ sequence_in limit v → x ≡ statement_sequence_offset (unit_here s q) (entry_here s p)
   unfolding statement_sequence_offset
   sequence-read is =
       is ∙ value-sequence limit s v
-      ∙ ap (sequence_meant limit) (attribute-says (accepted-placed A K) K v 0x3e0c says).is
+      ∙ ap (sequence_meant limit) says.is
       ∙ ap (λ (l : ℕ). sequence_meant l (meaning_of (attribute (entry_here s p) 0x3e0c))) most
       ∙ meaning-sequence (unit_here s q) (attribute (entry_here s p) 0x3e0c)
 
@@ -154,12 +149,18 @@ module _ {main : List ℕ} {unit p at : ℕ} {u : List ℕ} where
     no = λ n. absurd (n refl);
   }
 
-  pub warned-about : {n : ℕ} {u' : List ℕ} {m r : ℕ} → AboutWarned main unit p 4 n at u u' m r
-      → SequenceWarned main unit p (sequence_of (Some n)) true at u u' m r
+  pub warned-about : {n : ℕ} {u' : List ℕ} (y : Result ℕ Refusal) → AboutWarned main unit p 4 n at u u' y
+      → SequenceWarned main unit p (sequence_of (Some n)) true at u u' (status_of y) (value_or at y)
   unfolding ◌>>=◌ kind_number
-  warned-about {n} W = record {
-    new = about invalid_statement_sequence W.offset n ∷ [];
-    ok = λ z. rw (W.ok z);
-    laid = λ z. W.laid z invalid_statement_sequence refl;
-    no = λ z. rw (W.no z);
+  warned-about {n} (Ok r) W = record {
+    new = about invalid_statement_sequence W.is.offset n ∷ [];
+    ok = λ z. rw W.is.is;
+    laid = λ z. W.is.laid invalid_statement_sequence refl;
+    no = λ z. absurd (z refl);
+  }
+  warned-about (Err e) W = record {
+    new = [];
+    ok = λ z. absurd (numbered e z);
+    laid = λ z. absurd (numbered e z);
+    no = λ z. rw W.is;
   }

@@ -118,13 +118,13 @@ module _ {main supplementary lists addresses : List ℕ} {q : ImportContext} {na
       ∙ listed-none (context_with main supplementary lists addresses w₀ q) (entry_here main p) (below_entry main p) name s)
       (grows_none G.context.files kt kf ku))
 
-  pub list-failed : {e : Refusal} → NextIs lists addresses place size at base (Err e) → {n : ℕ} → n ≡ number_of e → {u' : List ℕ} {r : ImportState} → length t < top → length f < top → RejectsList st n u u' r
+  pub list-failed : {e : Refusal} → NextIs lists addresses place size at base (Err e) → {u' : List ℕ} {r : ImportState} → length t < top → length f < top → RejectsList st (number_of e) u u' r
       → Imports (λ s. ListFrom main supplementary lists addresses q name p w₀ (ranges_listed lists addresses list) s) (sheets main supplementary) q (memory w₀ t₀ f₀ u₀) st₀ (memory w t f u') 0 r
-  list-failed {e} N {n} is {u'} {r} kt kf R =
+  list-failed {e} N {u'} {r} kt kf R =
       G.finish w t f u' 0 r
-      (grows_as (λ s. ap (λ (l : ListRanges). ListFrom main supplementary lists addresses q name p w₀ l s) (sym N.is ∙ ap faulty (sym is))
-      ∙ listed-fault (context_with main supplementary lists addresses w₀ q) (entry_here main p) (below_entry main p) name n s (rw (← is) at N.within))
-      (imports-rejected (malformed_ranges true (decimal n) ∷ []) G.context kt kf (reason-put true (decimal n) R.put)
+      (grows_as (λ s. ap (λ (l : ListRanges). ListFrom main supplementary lists addresses q name p w₀ l s) (sym N.is)
+      ∙ listed-fault (context_with main supplementary lists addresses w₀ q) (entry_here main p) (below_entry main p) name (number_of e) s N.within)
+      (imports-rejected (malformed_ranges true (decimal (number_of e)) ∷ []) G.context kt kf (reason-put true (decimal (number_of e)) R.put)
       R.rejects))
 
   module _ {x : ListRange} (N : NextIs lists addresses place size at base (Ok (Some x))) where

@@ -12,5 +12,8 @@ returns c = word-limit c.requires.accepted c.requires.unit_in _ c.read.ensures c
 pub overflow_add-unit : goal.overflow_add-unit
 overflow_add-unit c = omega (arith, word-within c.requires.accepted c.requires.unit_in)
 
+pub overflow_add-unit-2 : goal.overflow_add-unit-2
+overflow_add-unit-2 c = omega (arith, word-within c.requires.accepted c.requires.unit_in)
+
 pub read-requires : goal.read-requires
 read-requires c = omega (arith, word-within c.requires.accepted c.requires.unit_in)

@@ -12,7 +12,7 @@ returns-in-Ok-None-clause-is c = let G = c.loop-given.invariant.going in
 
 pub returns-in-Err-clause-is : goal.returns-in-Err-clause-is
 returns-in-Err-clause-is c = let G = c.loop-given.invariant.going in
-    list-failed G c.in-Err.ensures c.number.ensures (omega (arith, c.well_formed, G.records-size)) (omega (arith, c.well_formed, G.files-size)) c.reject_list.ensures
+    list-failed G c.in-Err.ensures (omega (arith, c.well_formed, G.records-size)) (omega (arith, c.well_formed, G.files-size)) c.reject_list.ensures
 
 pub returns-in_err-state-in-Ok-Some-clause-is : goal.returns-in_err-state-in-Ok-Some-clause-is
 returns-in_err-state-in-Ok-Some-clause-is c = rw (handed _ _ c.from_residual.ensures.1) (list-refused c.loop-given.invariant.going (rw c.in-Ok-Some.field-0-is at c.in-Ok-Some.ensures) c.in_err-state-in-Ok-Some.ensures.is (numbered _))
