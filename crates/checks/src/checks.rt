@@ -12,6 +12,8 @@ ghost use Rattle.checks.specs.Layout.{Sized};
 use crate::layout::Counts;
 use crate::options::{Options, Sizes};
 use access::access::{list_count, next_before_rows, unit_by_ordinal};
+use files::sheets::Sheets;
+use rnglists::lists::RangeLists;
 use tlv::fields::next_field;
 use tlv::grammar::check_input;
 use tlv::refusal::Refusal;
@@ -42,29 +44,23 @@ const COUNTED_LISTS: usize = 256;
 const WORK_BESIDES: usize = 32768;
 
 // Refusal 1 of two inputs, a program, the range lists and their addresses.
-pub fn is_oversize(
-    main: &[u8],
-    supplementary: &[u8],
-    program: &[u8],
-    lists: &[u8],
-    addresses: &[u8],
-) -> bool
-    ensures { result ≡ oversize_of main.now supplementary.now program.now lists.now
-        addresses.now }
+pub fn is_oversize(sheets: Sheets, program: &[u8], lists: RangeLists) -> bool
+    ensures { result ≡ oversize_of sheets.entry.main.now sheets.entry.supplementary.now program.now
+        lists.entry.lists.now lists.entry.addresses.now }
 {
-    INPUT_LIMIT < main.len()
-        || INPUT_LIMIT < supplementary.len()
+    INPUT_LIMIT < sheets.main.len()
+        || INPUT_LIMIT < sheets.supplementary.len()
         || PROGRAM_LIMIT < program.len()
-        || LIST_LIMIT < lists.len()
-        || LIST_LIMIT < addresses.len()
+        || LIST_LIMIT < lists.lists.len()
+        || LIST_LIMIT < lists.addresses.len()
 }
 
 // Refusals 2 and 3, with a program of so many bytes: the main input before the supplementary one. Else how many fields both have.
-pub fn check_both(main: &[u8], supplementary: &[u8], program: usize) -> Result<usize, Refusal>
-    ensures { ChecksBoth main.now supplementary.now program result }
+pub fn check_both(sheets: Sheets, program: usize) -> Result<usize, Refusal>
+    ensures { ChecksBoth sheets.entry.main.now sheets.entry.supplementary.now program result }
 {
-    let m = check_input(main, program)?;
-    let s = check_input(supplementary, program)?;
+    let m = check_input(sheets.main, program)?;
+    let s = check_input(sheets.supplementary, program)?;
     Ok((m + s) as usize)
 }
 

@@ -55,6 +55,7 @@ pub struct Layout {
 }
 
 // Where the parts of one unit stand behind its lines.
+// Stays with three places that UnitContext has too: a struct of them would be made for that one copy.
 #[derive(Clone, Copy, Debug)]
 pub struct UnitLayout {
     pub text: usize,
@@ -189,6 +190,7 @@ fn unit_layout(l: Layout, encoded: bool, lists: usize) -> UnitLayout
 }
 
 // How many range lists the unit at a place has.
+// Stays with sheet, place and layout apart, as the two below: a struct of them would be made for one call of place_unit.
 fn unit_lists(main: &[u8], place: usize, l: Layout) -> usize
     requires unit_placed { UnitPlaced main.now place }
     requires unit_of { (UnitOf main.now place) × (TagsKnown main.now l) }

@@ -1,7 +1,7 @@
 -- `checks::check_both` meets its contract: what the checks of both inputs say together.
 use native.Mathlib.Omega.{arith}
 use Rattle.tlv.proofs.AnswerLaws.{handed}
-use Rattle.checks.proofs.CheckLaws.{both-first, both-second, checked-few, both-done}
+use Rattle.checks.proofs.CheckLaws.{both-first, both-second, checked-few}
 use Rattle.checks.proofs.checks.check_both.Goals as goal
 
 pub overflow_add-result : goal.overflow_add-result

@@ -1,7 +1,6 @@
 -- `checks::has_encoding` meets its contract: the unit has an encoding where it has a field 1d of its own.
 use mathlib.Core.Path.{◌∙◌}
-use native.Mathlib.Omega.{arith}
-use Rattle.files.proofs.UnitLaws.{unit-next, unit-within}
+use Rattle.files.proofs.UnitLaws.{unit-next}
 use Rattle.checks.proofs.WorkLaws.{encoding-told}
 use Rattle.checks.proofs.checks.has_encoding.Goals as goal
 

@@ -1,7 +1,5 @@
 -- `checks::work_of_unit` meets its contract.
-use native.Mathlib.Omega.{arith}
-use Rattle.files.proofs.UnitLaws.{unit-within}
-use Rattle.checks.proofs.WorkLaws.{program-work, lists-most, unit-work}
+use Rattle.checks.proofs.WorkLaws.{unit-work}
 use Rattle.checks.proofs.checks.work_of_unit.Goals as goal
 
 pub returns : goal.returns

@@ -1,5 +1,4 @@
 -- `layout::count_tags` meets its contract. The loop's invariant: of each tag what is counted and what is left to count make the whole.
-use native.Mathlib.Omega.{arith}
 use Rattle.tlv.proofs.FieldLaws.{next-less}
 use Rattle.checks.proofs.layout.TallyLaws.{tally-start, tally-none, tally-one, tally-other}
 use Rattle.checks.proofs.layout.count_tags.Goals as goal

@@ -1,6 +1,6 @@
 -- `layout::unit_layout` meets its contract.
 use native.Mathlib.Omega.{arith}
-use Rattle.checks.proofs.LayoutLaws.{program-few, open_few, laid-unit}
+use Rattle.checks.proofs.LayoutLaws.{program-few, laid-unit}
 use Rattle.checks.proofs.layout.unit_layout.Goals as goal
 
 pub overflow_add-text-2 : goal.overflow_add-text-2

@@ -1,6 +1,4 @@
 -- `layout::unit_lists` meets its contract.
-use native.Mathlib.Omega.{arith}
-use Rattle.files.proofs.UnitLaws.{unit-within}
 use Rattle.checks.proofs.WorkLaws.{lists-here, known-listed}
 use Rattle.checks.proofs.layout.unit_lists.Goals as goal
 
