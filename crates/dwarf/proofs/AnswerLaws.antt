@@ -8,6 +8,7 @@ use lib.Dec.{ltb}
 use lib.ListN.{length, drop, replicate}
 use borrow.Author.Tests.{ltb-false, lt-ltb, le-ltb}
 use Rattle.std.specs.Prelude.{Result, Ok, Err, Option as Maybe, Some, None}
+use Rattle.std.specs.Option.{option_map_or}
 use Rattle.tlv.specs.declared.refusal.Refusal.{Refusal}
 use Rattle.tlv.specs.Refusals.{number_of}
 use Rattle.tlv.specs.Outcome.{Outcome, refused, done, ◌>>=◌}
@@ -23,42 +24,14 @@ use Rattle.imports.proofs.Demand.{demand, dwarf-demand}
 use Rattle.dwarf.specs.declared.model.Imported.{Imported}
 use Rattle.dwarf.specs.declared.model.Lengths.{Lengths}
 use Rattle.dwarf.specs.declared.run.Ran.{Ran}
-use Rattle.dwarf.specs.Sizes.{short_in}
 use Rattle.dwarf.specs.Runs.{import_all, Written, Writes, fit_of}
 use Rattle.dwarf.specs.Answers.{left, AgreeAll, ImportsBy, ImportsUnit, ImportsDwarf}
 
--- ---- the refusal by the lengths
-
--- a run, but for the refusal of its lengths
-abbrev pub unless_short : Ran → Maybe Refusal → Result Ran Refusal
-unless_short r None = Ok r
-unless_short r (Some e) = Err e
-
-fit-short : (r : Ran) (lent : Lengths) → fit_of (Ok r) lent ≡ unless_short r (short_in r.lengths lent)
-unfolding fit_of
-fit-short r lent = go (ltb lent.records r.lengths.records) (ltb lent.files r.lengths.files) (ltb lent.warnings r.lengths.warnings)
-  where
-    go : (a b c : Bool) → cond a (Err Refusal.ShortRecords) (cond b (Err Refusal.ShortFiles) (cond c (Err Refusal.ShortWarnings) (Ok r)))
-        ≡ unless_short r (cond a (Some Refusal.ShortRecords) (cond b (Some Refusal.ShortFiles) (cond c (Some Refusal.ShortWarnings) None)))
-    go true b c = refl
-    go false true c = refl
-    go false false true = refl
-    go false false false = refl
-
-module _ (run : Result Ran Refusal) (lent : Lengths) where
-  pub fit_refused : {e : Refusal} → run ≡ Err e → Err e ≡ fit_of run lent
-  unfolding fit_of
-  fit_refused e = rw e
-
-  module _ {r : Ran} (e : run ≡ Ok r) where
-    pub fit-told : (s : Maybe Refusal) → s ≡ short_in r.lengths lent → unless_short r s ≡ fit_of run lent
-    fit-told s is = sym (ap (λ x. fit_of x lent) e ∙ fit-short r lent ∙ ap (unless_short r) (sym is))
+-- ---- the outcome
 
 -- how long three buffers are
 abbrev pub lengths : List ℕ → List ℕ → List ℕ → Lengths
 lengths t f u = record { records = length t; files = length f; warnings = length u }
-
--- ---- the outcome
 
 -- a place is past a buffer where the output is longer than it
 longer_is : {out t t' : List ℕ} {n : ℕ} → Put 0 out t t' n → ltb (length t') n ≡ ltb (length t) (length out)
@@ -111,7 +84,7 @@ module _ (i : Inputs) (o : Outcome State) where
         told ea eb ec = outcome-told ∙ (λ k. outcome_by (ea k) (eb k) (ec k) (written S.state))
 
         go : (a : Bool) → ltb (length t) r.lengths.records ≡ a → (b : Bool) → ltb (length f) r.lengths.files ≡ b → (c : Bool) → ltb (length u) r.lengths.warnings ≡ c
-            → FittingBy t f u (cond a (Err Refusal.ShortRecords) (cond b (Err Refusal.ShortFiles) (cond c (Err Refusal.ShortWarnings) (Ok r))))
+            → FittingBy t f u (option_map_or Err (cond a (Some Refusal.ShortRecords) (cond b (Some Refusal.ShortFiles) (cond c (Some Refusal.ShortWarnings) None))) (Ok r))
         go true ea b eb c ec = told ea eb ec
         go false ea true eb c ec = told ea eb ec
         go false ea false eb true ec = told ea eb ec

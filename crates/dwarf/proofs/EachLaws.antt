@@ -8,13 +8,11 @@ use native.Mathlib.Omega.{arith}
 use lib.ListN.{length, get_or, take, drop, length-map}
 use Rattle.tlv.specs.Outcome.{Outcome, refused, done, ◌>>=◌}
 use Rattle.tlv.specs.Lists.{All, at, map_option}
-use Rattle.tlv.specs.Bytes.{le_at}
 use Rattle.tlv.specs.Fields.{fields}
 use Rattle.tlv.specs.Model.{CompilationUnit, units}
 use Rattle.tlv.proofs.PlaceLaws.{get_or_image}
 use Rattle.buffers.specs.Buffer.{top}
 use Rattle.buffers.specs.Table.{chunk, records}
-use Rattle.buffers.proofs.ChunkLaws.{le_at-chunk}
 use Rattle.buffers.proofs.RecordLaws.{records-at}
 use Rattle.access.specs.Places.{unit_here, unit_places}
 use Rattle.access.specs.Units.{IndexedUnit, indexed_unit, unit_of24}
@@ -64,7 +62,7 @@ module _ {A : Type 0} where
   from_at (y ∷ xs) (suc k) x e h = from_at xs k x e (omega arith)
 
 module _ {main supplementary program lists w : List ℕ} {l : Layout} {x : Indexes} (T : TablesIn main supplementary program lists w l x) where
-  pub place_inside : (k p : ℕ) → k < x.main.units.count → p ≡ le_at 8 w (x.main.units.base + 24 * k + 16) → UnitIn main p × (at (units main) k ≡ some (unit_here main p))
+  pub place_inside : (k p : ℕ) → k < x.main.units.count → p ≡ (unit_of24 (chunk w (x.main.units.base + k * 24) 24)).place → UnitIn main p × (at (units main) k ≡ some (unit_here main p))
   unfolding unit_of24 indexed_unit map_option
   place_inside k p h e =
       let I = T.of_main.index in
@@ -76,7 +74,7 @@ module _ {main supplementary program lists w : List ℕ} {l : Layout} {x : Index
       let same : unit_of24 (chunk w (x.main.units.base + k * 24) 24) ≡ indexed_unit main (get_or places k 0) =
       sym one ∙ ap (λ (us : List IndexedUnit). get_or us k (indexed_unit main 0)) I.units ∙ two in
       let place_is : p ≡ get_or places k 0 =
-      e ∙ ap (λ (n : ℕ). le_at 8 w n) (omega arith) ∙ sym (le_at-chunk 8 w (x.main.units.base + k * 24) 24 16 (omega arith)) ∙ ap (λ (u : IndexedUnit). u.place) same in
+      e ∙ ap (λ (u : IndexedUnit). u.place) same in
       let stands : at places k ≡ some p = at-inside places k 0 inside ∙ ap some (sym place_is) in
       (record { number = k; is = stands }, units-at main k ∙ ap (map_option (unit_here main)) stands)
 
@@ -149,17 +147,13 @@ module _ {main supplementary program lists addresses : List ℕ} {l : Layout} {x
   abbrev whole : State → Outcome State
   whole = import_units (dwarf_with main supplementary lists addresses) (units_from main from to) program inlines call_sites
 
-  -- the record of the next unit lies in the slice
-  pub record-inside : k < to → x.main.units.base + 24 * k + 24 ≤ length w
-  record-inside h = let a = I.tables.of_main.index.units-within in let b = I.within in omega arith
-
   pub units-end : to ≤ k → Grows whole (sheets main supplementary) (above_tables l (length w₀)) (memory w₀ t₀ f₀ u₀) st₀ (memory w t f u) 0 st
   units-end h =
       let none : to - k ≡ 0 = omega arith in
       grows_as (λ s. I.left s ∙ ap (λ (n : ℕ). I.before s >>= import_units (dwarf_with main supplementary lists addresses) (take n (drop k (units main))) program inlines call_sites) none
       ∙ after_none (dwarf_with main supplementary lists addresses) program inlines call_sites (I.before s)) I.does
 
-  module _ (h : k < to) {p : ℕ} (e : p ≡ le_at 8 w (x.main.units.base + 24 * k + 16)) where
+  module _ (h : k < to) {p : ℕ} (e : p ≡ (unit_of24 (chunk w (x.main.units.base + k * 24) 24)).place) where
     pub unit-in : UnitIn main p
     unit-in = (place_inside I.tables k p (let b = I.within in omega arith) e).0
 

@@ -1,5 +1,7 @@
 -- Contract. What an import promises up to refusal 15.
-use Rattle.std.specs.Prelude.{◌≡◌, Result, Ok, Err, Option as Maybe, Some, None, Bool, cond, List, [], ℕ, ◌-◌, ◌≤◌, ltb, length, take, drop}
+use Rattle.std.specs.Prelude.{◌≡◌, Result, Ok, Err, Option as Maybe, Some, None, Bool, cond, List, [], ℕ, ◌-◌, ◌≤◌, length, take, drop}
+use Rattle.std.specs.Option.{option_map_or}
+use Rattle.std.specs.declared.ops.Range.{Range}
 use Rattle.tlv.specs.declared.refusal.Refusal.{Refusal}
 use Rattle.tlv.specs.Outcome.{Outcome, refused, done}
 use Rattle.tlv.specs.Refusals.{number_of}
@@ -15,7 +17,7 @@ use Rattle.checks.specs.declared.options.Options.{Options}
 use Rattle.checks.specs.Checks.{missing_of, chosen_units}
 use Rattle.dwarf.specs.declared.model.Lengths.{Lengths}
 use Rattle.dwarf.specs.declared.run.Ran.{Ran}
-use Rattle.dwarf.specs.declared.unit.Chosen.{Chosen}
+use Rattle.dwarf.specs.Sizes.{short_in}
 
 -- ---- what is asked
 
@@ -55,11 +57,11 @@ import_all (Some n) i = import_of i
 
 -- ---- which units
 
--- of so many units those from number `from` to below `to` are chosen
-pub record Chooses (o : Options) (count : ℕ) (r : Chosen) : Type 0 where
-  pub order : r.from ≤ r.to
-  pub within : r.to ≤ count
-  pub is : (us : List CompilationUnit) → length us ≡ count → take (r.to - r.from) (drop r.from us) ≡ chosen_units o us
+-- of so many units those from number `start` to below `end` are chosen
+pub record Chooses (o : Options) (count : ℕ) (r : Range ℕ) : Type 0 where
+  pub order : r.start ≤ r.end
+  pub within : r.end ≤ count
+  pub is : (us : List CompilationUnit) → length us ≡ count → take (r.end - r.start) (drop r.start us) ≡ chosen_units o us
 
 -- 4, 5 and the import, where both inputs are accepted and have n fields
 abbrev pub import_accepted : Options → Inputs → ℕ → Outcome State
@@ -102,8 +104,4 @@ pub record Writes (o : Outcome State) (t f u t' f' u' : List ℕ) (r : Result Ra
 -- a run whose output buffers have these lengths: it, or its refusal
 unfoldable pub fit_of : Result Ran Refusal → Lengths → Result Ran Refusal
 fit_of (Err e) lent = Err e
-fit_of (Ok r) lent =
-    cond (ltb lent.records r.lengths.records) (Err Refusal.ShortRecords)
-    (cond (ltb lent.files r.lengths.files) (Err Refusal.ShortFiles)
-    (cond (ltb lent.warnings r.lengths.warnings) (Err Refusal.ShortWarnings)
-    (Ok r)))
+fit_of (Ok r) lent = option_map_or Err (short_in r.lengths lent) (Ok r)

@@ -1,5 +1,5 @@
 -- Contract. What the import of units one after another promises (document 02, E11).
-use Rattle.std.specs.Prelude.{◌≡◌, Result, List, [], ◌∷◌, ℕ, ◌+◌, ◌-◌, ◌≤◌, length}
+use Rattle.std.specs.Prelude.{Result, List, [], ◌∷◌, ℕ, ◌+◌, ◌-◌, ◌≤◌, length}
 use Rattle.tlv.specs.declared.refusal.Refusal.{Refusal}
 use Rattle.tlv.specs.Outcome.{Outcome}
 use Rattle.tlv.specs.Refusals.{status_of}

@@ -42,6 +42,7 @@ fn import_by(
     ensures same { SameOutputs outputs.old outputs.new }
 {
     let ran = run_cleared(inputs, options, work, outputs);
+    // Stays a match: a refusal fills the buffers first, and of what the closure of a `map_err` writes nothing would be known.
     match fitting(ran, Lengths::of(outputs)) {
         Ok(ran) => Ok(Imported::from(ran)),
         Err(refusal) => {

@@ -26,6 +26,7 @@ impl Lengths {
     }
 
     // Refusals 16 to 18 of buffers that are so long: the lowest of one that is shorter than what was to be written to it.
+    // Stays an Option: replay compares the refusal, and only `fitting` hands it on.
     pub fn short_in(self, lent: Lengths) -> Option<Refusal>
         ensures { result ≡ short_in self lent }
     {

@@ -14,15 +14,17 @@ ghost use Rattle.dwarf.specs.Lent.{asked_of, WritesTo};
 use crate::lent::Inputs;
 use crate::model::Lengths;
 use crate::tables::index_inputs;
-use crate::unit::{Chosen, import_each};
+use crate::unit::import_each;
 use checks::checks::{check_both, is_missing, is_oversize, is_short, work_of_units};
 use checks::layout::{Counts, counts_of, lay_out};
 use checks::options::{Options, Sizes};
 use files::store::StoredFiles;
+use std::ops::Range;
 use subprograms::model::{ConversionStats, ImportState, Outputs};
 use tlv::refusal::Refusal;
 
 // The full lengths of what an import writes, each at most the largest place, the statistics, and whether the records pass that place.
+// Stays beside Imported, which From makes of it: with Imported in it each clause on a length would be led through one more field.
 #[derive(Clone, Copy, Debug)]
 pub struct Ran {
     pub lengths: Lengths,
@@ -50,17 +52,17 @@ impl From<ImportState> for Ran {
 }
 
 // Which of so many units are asked for: a package without debug data has none.
-fn chosen_units(options: Options, count: usize) -> Chosen
+fn chosen_units(options: Options, count: usize) -> Range<usize>
     ensures { Chooses options count result }
 {
     let Some(ordinal) = options.ordinal else {
-        return Chosen { from: 0, to: count };
+        return 0..count;
     };
     if (count as u64) <= ordinal {
-        return Chosen { from: 0, to: 0 };
+        return 0..0;
     }
     let from = ordinal as usize;
-    Chosen { from, to: from + 1 }
+    from..from + 1
 }
 
 // The import of the units that are asked for, with work enough: the file table is begun and the tables of both inputs are made once for all.
@@ -143,24 +145,15 @@ fn run_import(
     ensures is { WritesTo (import_all options.ordinal (asked_of inputs.entry options work.old outputs.old)) outputs.old outputs.new result }
     ensures same { SameOutputs outputs.old outputs.new }
 {
-    if is_oversize(
-        inputs.sheets.main,
-        inputs.sheets.supplementary,
-        inputs.program,
-        inputs.lists.lists,
-        inputs.lists.addresses,
-    ) {
+    if is_oversize(inputs.sheets, inputs.program, inputs.lists) {
         return Err(Refusal::Oversize);
     }
-    let number = check_both(
-        inputs.sheets.main,
-        inputs.sheets.supplementary,
-        inputs.program.len(),
-    )?;
+    let number = check_both(inputs.sheets, inputs.program.len())?;
     import_accepted(inputs, options, number, work, outputs)
 }
 
 // The same, after which work holds only 0.
+// Stays beside symbols' join_symbols_with: alike is that work is filled with 0 behind a run.
 pub fn run_cleared(
     inputs: Inputs,
     options: Options,
@@ -177,6 +170,7 @@ pub fn run_cleared(
 }
 
 // Refusals 16 to 18, where there is no other.
+#[tactic(auto, unfolding(crate::specs::Runs::fit_of))]
 pub fn fitting(ran: Result<Ran, Refusal>, lent: Lengths) -> Result<Ran, Refusal>
     ensures { result ≡ fit_of ran lent }
 {

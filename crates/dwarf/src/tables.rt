@@ -13,11 +13,11 @@ ghost use Rattle.dwarf.specs.Given.{LaidOutFor};
 use crate::lent::Inputs;
 use access::index::index_entries;
 use access::units::index_units;
-use buffers::table::Stored;
 use checks::layout::Layout;
 use references::tables::Index;
 
 // The layout of the work slice, and the tables of both inputs that stand by it.
+// Stays with both tables side by side, as references' Tables: a pair of them would be a type more, for the one copy from here to there.
 #[derive(Clone, Copy, Debug)]
 pub struct Indexes {
     pub layout: Layout,
@@ -34,11 +34,9 @@ fn index_input(s: &[u8], work: &mut [u8], units: usize, entries: usize) -> Index
     requires entries_fit { entries + entry_record * length (payloads entry_tag (whole_fields (fields s.now))) ≤ length work.old }
     ensures { IndexesInput s.now work.old work.new units entries result }
 {
-    let unit_count = index_units(s, work, units);
-    let entry_count = index_entries(s, work, entries);
     Index {
-        units: Stored::new(units, unit_count),
-        entries: Stored::new(entries, entry_count),
+        units: index_units(s, work, units),
+        entries: index_entries(s, work, entries),
     }
 }
 

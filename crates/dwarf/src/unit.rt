@@ -13,28 +13,16 @@ ghost use Rattle.dwarf.specs.Units.{GrowsTo};
 use crate::lent::Inputs;
 use crate::part::program_part;
 use crate::tables::Indexes;
-use access::units::UNIT_RECORD;
+use access::units::{UNIT_RECORD, UnitSpan};
 use checks::layout::{UnitLayout, place_unit};
 use checks::options::Options;
 use collect::collect::{CollectedLines, LineUnit, collect_lines};
 use dies::details::UnitContext;
 use references::tables::Tables;
+use std::ops::Range;
 use subprograms::model::{ImportContext, ImportState, Outputs};
 use subprograms::text::index_text;
-use tlv::bytes::Number;
 use tlv::refusal::Refusal;
-
-// Where in a record of the table of units the unit's place stands.
-// Stays a place in a record: `UnitSpan::read` reads three numbers, of which import_each needs this one.
-const UNIT_PLACE: usize = 16;
-
-// The units from number `from` to below `to`.
-// Stays a struct: std's `Range` is no Copy value, and the contracts read both of its numbers besides the loop over it.
-#[derive(Clone, Copy, Debug)]
-pub struct Chosen {
-    pub from: usize,
-    pub to: usize,
-}
 
 // What is the same for every subprogram of a unit whose lines were collected.
 fn unit_context<'a>(
@@ -83,6 +71,7 @@ fn unit_context<'a>(
 }
 
 // The import of the unit at a place.
+// Stays with work, outputs and state apart, as import_each: subprograms' import_candidate says why.
 fn import_at(
     inputs: Inputs,
     indexes: Indexes,
@@ -127,26 +116,26 @@ fn import_at(
 pub fn import_each(
     inputs: Inputs,
     indexes: Indexes,
-    chosen: Chosen,
+    chosen: Range<usize>,
     options: Options,
     work: &mut [u8],
     outputs: &mut Outputs,
     state: ImportState,
 ) -> Result<ImportState, Refusal>
-    requires from_le_to { (chosen.from ≤ chosen.to) × (chosen.to ≤ indexes.main.units.count) }
+    requires from_le_to { (chosen.start ≤ chosen.end) × (chosen.end ≤ indexes.main.units.count) }
     requires all { All (EnoughFor inputs work.old)
-        (take (chosen.to - chosen.from) (drop chosen.from (units inputs.sheets.main.now))) }
+        (take (chosen.end - chosen.start) (drop chosen.start (units inputs.sheets.main.now))) }
     requires tables_in { TablesFor inputs work.old indexes }
     requires ready { ReadyFor inputs work.old indexes state }
-    ensures is { let us = take (chosen.to - chosen.from) (drop chosen.from (units inputs.entry.sheets.main.now)) in
+    ensures is { let us = take (chosen.end - chosen.start) (drop chosen.start (units inputs.entry.sheets.main.now)) in
         GrowsTo (import_units (dwarf_lent inputs.entry) us inputs.entry.program.now options.inlines options.call_sites)
         inputs.entry indexes work.old outputs.old state work.new outputs.new result }
     ensures same { SameOutputs outputs.old outputs.new }
 {
     let units = indexes.main.units.base;
     let mut reached = state;
-    for k in chosen.from..chosen.to {
-        let place = u64::read(work, units + UNIT_RECORD * k + UNIT_PLACE) as usize;
+    for k in chosen {
+        let place = UnitSpan::read(work, units + k * UNIT_RECORD).place;
         reached = import_at(inputs, indexes, place, options, work, outputs, reached)?;
     }
     Ok(reached)

@@ -1,7 +1,7 @@
 -- The pass that writes no output buffer: what the import would write is counted, whatever the buffers are.
-use mathlib.Core.Path.{◌≡◌, refl, sym, subst, ap, ◌∙◌}
+use mathlib.Core.Path.{◌≡◌, refl, sym, ap, ◌∙◌}
 use mathlib.Core.Bool.{Bool, true, false}
-use mathlib.Core.List.{List, []}
+use mathlib.Core.List.{List}
 use Prim.Native.Nat.{ℕ, ◌+◌, ◌-◌, ◌^◌}
 use lib.Dec.{ltb}
 use native.Mathlib.Omega.{arith}

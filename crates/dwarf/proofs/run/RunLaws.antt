@@ -39,7 +39,7 @@ use Rattle.checks.specs.Layout.{LaidOut}
 use Rattle.checks.specs.Checks.{oversize_of, listed, chosen_units, ChecksBoth, missing_of, missing_unit, short_of, WorkEnough}
 use Rattle.dwarf.specs.declared.run.Ran.{Ran}
 use Rattle.dwarf.specs.declared.tables.Indexes.{Indexes}
-use Rattle.dwarf.specs.declared.unit.Chosen.{Chosen}
+use Rattle.std.specs.declared.ops.Range.{Range}
 use Rattle.dwarf.specs.Tables.{IndexesInputs}
 use Rattle.dwarf.specs.Units.{Ready}
 use Rattle.dwarf.specs.Runs.{ordinal_of, import_all, Chooses, import_accepted, start_state, LengthsOf, Writes}
@@ -56,12 +56,12 @@ module _ {o : Outcome State} {t f u t' f' u' : List ℕ} where
 -- ---- which units
 
 module _ (o : Options) (count : ℕ) where
-  pub chooses-all : {r : Chosen} → o.ordinal ≡ None → r.from ≡ 0 → r.to ≡ count → Chooses o count r
+  pub chooses-all : {r : Range ℕ} → o.ordinal ≡ None → r.start ≡ 0 → r.end ≡ count → Chooses o count r
   unfolding chosen_units
   chooses-all {r} e a b = record {
     order = omega arith;
     within = omega arith;
-    is = λ us l. let z : r.to - r.from ≡ count = omega arith in rw (e, z, a) (take_all count us (omega arith));
+    is = λ us l. let z : r.end - r.start ≡ count = omega arith in rw (e, z, a) (take_all count us (omega arith));
   }
 
   module _ {n : ℕ} (one : o.ordinal ≡ Some n) where
@@ -78,20 +78,20 @@ module _ (o : Options) (count : ℕ) where
     at_one (u ∷ us) zero h = refl
     at_one (u ∷ us) (suc k) h = at_one us k (omega arith)
 
-    pub chooses_none : {r : Chosen} → count ≤ n → r.from ≡ 0 → r.to ≡ 0 → Chooses o count r
+    pub chooses_none : {r : Range ℕ} → count ≤ n → r.start ≡ 0 → r.end ≡ 0 → Chooses o count r
     unfolding chosen_units
     chooses_none {r} h a b = record {
       order = omega arith;
       within = omega arith;
-      is = λ us l. let z : r.to - r.from ≡ 0 = omega arith in rw (one, z, at-past us n (omega arith));
+      is = λ us l. let z : r.end - r.start ≡ 0 = omega arith in rw (one, z, at-past us n (omega arith));
     }
 
-    pub chooses-one : {r : Chosen} → n < count → r.from ≡ n → r.to ≡ r.from + 1 → Chooses o count r
+    pub chooses-one : {r : Range ℕ} → n < count → r.start ≡ n → r.end ≡ r.start + 1 → Chooses o count r
     unfolding chosen_units
     chooses-one {r} h a b = record {
       order = omega arith;
       within = omega arith;
-      is = λ us l. let z : r.to - r.from ≡ 1 = omega arith in rw (one, z, a) (at_one us n (omega arith));
+      is = λ us l. let z : r.end - r.start ≡ 1 = omega arith in rw (one, z, a) (at_one us n (omega arith));
     }
 
 -- ---- the import by its inputs
@@ -215,12 +215,12 @@ module _ {main supplementary program lists : List ℕ} {l : Layout} {first : ℕ
     stats = stats_of (sym none k);
   }
 
-  module _ {o : Options} {count : ℕ} {c : Chosen} (K : Chooses o count c) (many : length (units main) ≡ count) (addresses : List ℕ) (inlines call_sites : Bool) where
+  module _ {o : Options} {count : ℕ} {c : Range ℕ} (K : Chooses o count c) (many : length (units main) ≡ count) (addresses : List ℕ) (inlines call_sites : Bool) where
     abbrev pub outcome : Outcome State
     outcome = import_units (dwarf_with main supplementary lists addresses) (chosen_units o (units main)) program inlines call_sites (start_state first)
 
     abbrev pub asked : State → Outcome State
-    asked = import_units (dwarf_with main supplementary lists addresses) (take (c.to - c.from) (drop c.from (units main))) program inlines call_sites
+    asked = import_units (dwarf_with main supplementary lists addresses) (take (c.end - c.start) (drop c.start (units main))) program inlines call_sites
 
     told : outcome ≡ asked (state_of main supplementary w₂ begun [] [])
     told = λ k. import_units (dwarf_with main supplementary lists addresses) (sym (K.is (units main) many) k) program inlines call_sites (started k)

@@ -1,8 +1,8 @@
 -- `run::import_accepted` meets its contract: refusals 4 and 5, or the units.
-use Rattle.checks.proofs.CheckLaws.{both-few, accepted-both, work-enough}
+use Rattle.checks.proofs.CheckLaws.{both-few, work-enough}
 use Rattle.checks.proofs.WorkLaws.{most-small}
 use Rattle.dwarf.specs.Lent.{asked_of}
-use Rattle.dwarf.proofs.run.RunLaws.{accepted-missing, accepted-short, accepted-long}
+use Rattle.dwarf.proofs.run.RunLaws.{accepted-short, accepted-long}
 use Rattle.dwarf.proofs.run.import_accepted.Goals as goal
 
 pub is_short-requires : goal.is_short-requires

@@ -1,6 +1,5 @@
 -- `run::import_worked` meets its contract: the file table and the tables of both inputs stand before the first unit.
 use mathlib.Core.Path.{◌≡◌, sym, ◌∙◌}
-use native.Mathlib.Omega.{arith}
 use Rattle.tlv.specs.Checked.{Accepted}
 use Rattle.tlv.proofs.AnswerLaws.{handed}
 use Rattle.subprograms.specs.declared.model.ConversionStats.{ConversionStats}
@@ -13,7 +12,7 @@ use Rattle.checks.proofs.WorkLaws.{most-least, each-enough}
 use Rattle.dwarf.specs.declared.lent.Inputs.{Inputs}
 use Rattle.dwarf.specs.Given.{SizesOf, LaidOutFor}
 use Rattle.dwarf.proofs.EachLaws.{units-many}
-use Rattle.dwarf.proofs.run.RunLaws.{files-room, tables-room, ready-first, units-refused, writes-units}
+use Rattle.dwarf.proofs.run.RunLaws.{files-room, ready-first, units-refused, writes-units}
 use Rattle.dwarf.proofs.run.import_worked.Goals as goal
 
 -- the tables of what is lent stand where they are laid out

@@ -1,7 +1,6 @@
 -- `run::run_import` meets its contract: refusals 1 to 3, or what follows.
 use mathlib.Core.Path.{refl}
 use Rattle.tlv.proofs.AnswerLaws.{handed}
-use Rattle.checks.proofs.CheckLaws.{not-oversize}
 use Rattle.dwarf.specs.Lent.{asked_of}
 use Rattle.dwarf.proofs.run.RunLaws.{run-oversize, run-refused, run-accepted}
 use Rattle.dwarf.proofs.run.run_import.Goals as goal

@@ -1,7 +1,6 @@
 -- `tables::index_inputs` meets its contract: the second input's tables stand behind the first one's.
-use native.Mathlib.Omega.{arith}
 use mathlib.Core.Path.{◌∙◌}
-use Rattle.dwarf.proofs.TablesLaws.{main-room, supplementary-room, indexes-inputs}
+use Rattle.dwarf.proofs.TablesLaws.{indexes-inputs}
 use Rattle.dwarf.proofs.tables.index_inputs.Goals as goal
 
 pub returns : goal.returns

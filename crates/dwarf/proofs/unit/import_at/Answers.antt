@@ -1,6 +1,6 @@
 -- `unit::import_at` meets its contract: its lines are collected, its context is made, its subprograms are imported.
 use mathlib.Core.List.{List}
-use mathlib.Core.Path.{◌≡◌, ◌∙◌}
+use mathlib.Core.Path.{◌≡◌}
 use Prim.Native.Nat.{ℕ}
 use lib.ListN.{length}
 use Rattle.tlv.proofs.AnswerLaws.{handed}
@@ -17,7 +17,7 @@ use Rattle.checks.proofs.LayoutLaws.{unit-laid}
 use Rattle.dwarf.specs.declared.tables.Indexes.{Indexes}
 use Rattle.dwarf.specs.Tables.{TablesIn}
 use Rattle.dwarf.proofs.TablesLaws.{accepted-main, accepted-supplementary, tables-kept}
-use Rattle.dwarf.proofs.unit.UnitStepLaws.{part-short, lines-room, collected-low, lines-laid, warned-fits, context-holds, unit-grows, unit-refused}
+use Rattle.dwarf.proofs.unit.UnitStepLaws.{part-short, lines-room, collected-low, lines-laid, context-holds, unit-grows, unit-refused}
 use Rattle.dwarf.proofs.unit.import_at.Goals as goal
 
 -- the unit's parts stand where they are laid out

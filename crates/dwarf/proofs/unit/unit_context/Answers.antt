@@ -2,7 +2,7 @@
 use mathlib.Core.Path.{refl}
 use Rattle.tlv.proofs.PlaceFacts.{placed-start}
 use Rattle.dwarf.proofs.TablesLaws.{accepted-main}
-use Rattle.dwarf.proofs.unit.UnitContextLaws.{text-room, makes-context}
+use Rattle.dwarf.proofs.unit.UnitContextLaws.{makes-context}
 use Rattle.dwarf.proofs.unit.unit_context.Goals as goal
 
 pub index_text-text-requires-clause-placed : goal.index_text-text-requires-clause-placed
