@@ -16,6 +16,7 @@ fn row(place: u16, code: u8) -> LineEntry {
     }
 }
 
+// Stays beside line_answers' write_entry, which writes the address in hexadecimal: one Display of LineEntry would have to choose.
 fn write_row(out: &mut impl Write, row: LineEntry) -> io::Result<()> {
     write!(
         out,

@@ -1,5 +1,5 @@
-// The functions of `pezgok`, exported for C: include/pezgok.h declares them. A crate is a library or a static library, so these stand apart, each with the
-// clauses of the function that it calls.
+// The functions of `pezgok`, exported for C: include/pezgok.h declares them. Each has the clauses of the function that it calls.
+// Stays the copy of pezgok's functions: a crate is a library or a static library, and a Rust caller can depend on the library alone.
 // Stays, in all of this crate, with numbers for answers, slices and numbers lent to write an answer to, and parameters apart: the header declares each so.
 #![tactic(auto)]
 

@@ -13,7 +13,8 @@ const LENGTH: usize = 17;
 const ROW: usize = LENGTH + 1;
 
 // A row for each number from 0 on: its word, dots up to 17 bytes, and how long the word is.
-// Stays a table of bytes, no Display: C is lent the word as bytes, and each row is proved to be that of the papers' table.
+// Stays rows in one array of bytes, each as long. A table of `&str` was tried: the check gives no bytes of its elements, where here the proof is one
+// equation of this table with the papers'.
 const ROWS: [u8; 504] = *b"\
     .................\x00\
     oversize.........\x08\
