@@ -1,6 +1,6 @@
 -- Contract. What a call is cut into: a number in its first 4 bytes, and parts that stand behind their lengths.
 use Rattle.std.specs.Prelude.{◌≡◌, ◌⊎◌, ◌+◌, ◌<◌, ℕ, List, ◌++◌, length, take, drop}
-use Rattle.std.specs.Int.{w32, from_le_bytes}
+use Rattle.std.specs.Int.{w16, w32, from_le_bytes}
 
 -- the number in the first 4 bytes
 abbrev pub number_of : List ℕ → ℕ
@@ -21,6 +21,18 @@ pub record SplitsPart (call part rest : List ℕ) : Type 0 where
 
 pub record NoPart (call : List ℕ) : Type 0 where
   pub short : length call < 4 ⊎ length call < 4 + number_of call
+
+-- the number in the first 2 bytes
+abbrev pub short_number_of : List ℕ → ℕ
+short_number_of call = from_le_bytes w16 (take 2 call)
+
+pub record SplitsShortPart (call part rest : List ℕ) : Type 0 where
+  pub size : length part ≡ short_number_of call
+  pub whole : drop 2 call ≡ part ++ rest
+  pub fits : length rest + length part + 2 ≡ length call
+
+pub record NoShortPart (call : List ℕ) : Type 0 where
+  pub short : length call < 2 ⊎ length call < 2 + short_number_of call
 
 pub record SplitsParts (call first second rest : List ℕ) : Type 0 where
   pub first-size : length first ≡ number_of call

@@ -4,10 +4,13 @@
 ghost use Rattle.std.specs.Prelude.{◌≡◌, true, ◌<◌, ◌≤◌, IfOk, IfSome, MatchOption, length, take};
 ghost use Rattle.std.specs.Io.KnownBytes.{Consumes, IsAtEnd};
 ghost use Rattle.streams.specs.Calls.{NextByte, NextNumber, NextCall, ReadsCall, AnswersAll};
-ghost use Rattle.streams.specs.Parts.{SplitsNumber, NoNumber, SplitsPart, NoPart, SplitsParts, NoParts};
+ghost use Rattle.streams.specs.Parts.{SplitsNumber, NoNumber, SplitsPart, NoPart, SplitsShortPart, NoShortPart, SplitsParts, NoParts};
 
 use std::io::{self, Read, Write};
 use tlv::refusal::Refusal;
+
+// The byte that a buffer is filled with before it is lent, so that what is written there shows.
+pub const FILLED: u8 = 0xa5;
 
 // Reads until the buffer is full or the input ends, and says how many bytes it put at the buffer's front: std's `read_exact` does not say how many came.
 pub fn read_full<R: Read>(input: &mut R, buffer: &mut [u8]) -> io::Result<usize>
@@ -28,6 +31,7 @@ pub fn read_full<R: Read>(input: &mut R, buffer: &mut [u8]) -> io::Result<usize>
 }
 
 // The next byte; past the input's end it is 0.
+// Stays beside next_u32: what they share is the one call of read_full; an array of N bytes would leave to each its number and its clause.
 pub fn next_u8<R: Read>(input: &mut R) -> io::Result<u8>
     ensures { IfOk result (λ b. NextByte (R.remaining input.old) (R.remaining input.new) b) }
 {
@@ -46,6 +50,7 @@ pub fn next_u32<R: Read>(input: &mut R) -> io::Result<u32>
 }
 
 // The next call, put at the buffer's front: its length in 4 bytes, then its bytes. None, with a message, where the buffer is too short or the call is cut off.
+// Stays with input, output and buffer apart, here and in the programs: answer_all lends the input to a closure that holds the other two.
 pub fn next_call<'a, R: Read>(
     input: &mut R,
     out: &mut impl Write,
@@ -80,6 +85,14 @@ pub fn split_part(call: &[u8]) -> Option<(&[u8], &[u8])>
 {
     let (n, rest) = split_number(call)?;
     rest.split_at_checked(n as usize)
+}
+
+// The same of a part that stands behind a length of 2 bytes.
+pub fn split_short_part(call: &[u8]) -> Option<(&[u8], &[u8])>
+    ensures { MatchOption result (NoShortPart call.now) (λ p. SplitsShortPart call.now p.0.now p.1.now) }
+{
+    let (bytes, rest) = call.split_first_chunk()?;
+    rest.split_at_checked(u16::from_le_bytes(*bytes) as usize)
 }
 
 // The two parts of a call that stand behind both their lengths, 4 bytes each, and what is behind them; none where the call is cut off.
