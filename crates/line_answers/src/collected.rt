@@ -9,13 +9,11 @@ use collect::collect::{CollectedLines, LineUnit, collect_lines};
 use files::sheets::Sheets;
 use files::store::{FILE_RECORD, JOINED_LIMIT, StoredFiles};
 use rows::line::ROW_ROOM;
+use tlv::grammar::FIELD_LIMIT;
 use tlv::refusal::Refusal;
 
 // The room for a byte of a program that gives rows: at most a row, and an offset of eight bytes in three.
 const BYTE_ROOM: usize = ROW_ROOM + 3;
-
-// The most fields of a sheet that are tried.
-const MOST_FIELDS: usize = 65536;
 
 // Above what a field takes: a file's record, a row's room, a directory's span or a place in the unit's map.
 const FIELD_ROOM: usize = 108;
@@ -24,6 +22,7 @@ const FIELD_ROOM: usize = 108;
 const HEAD_ROOM: usize = 82;
 
 // Collects the lines of a sheet's first unit, behind the file table; refused where the sheet is not accepted, has no unit, or the work has no room.
+// Stays with what is lent apart, as the two below: collect_lines takes work and trays so; main and program are first together in the LineUnit made there.
 pub fn collect_case<'a>(
     main: &'a [u8],
     program: &'a [u8],
@@ -88,10 +87,11 @@ fn collect_placed<'a>(
 }
 
 // Whether a work slice has room for the file table and the lines of a sheet of n fields.
+// Stays beside search_answers' has_room: each bounds the tables of its own program.
 fn has_room(main: usize, program: usize, n: usize, work: usize) -> bool
     ensures { HasRoom main program n work result }
 {
-    if MOST_FIELDS < n {
+    if FIELD_LIMIT < n as u64 {
         return false;
     }
     let need = n * FIELD_ROOM + (JOINED_LIMIT + HEAD_ROOM);

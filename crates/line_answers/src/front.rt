@@ -3,9 +3,10 @@ ghost use Rattle.std.specs.Prelude.{◌≡◌, true, ◌+◌, ◌*◌, ◌≤◌
 ghost use Rattle.rows.specs.Sizes.{entry_size, line_size};
 ghost use Rattle.rows.specs.Selects.{RowsBelow};
 
+use crate::QUERY_SEQUENCE;
 use crate::output::write_rows;
 use buffers::table::Stored;
-use rows::line::{ENTRY_SIZE, LINE_SIZE, SequencedLine};
+use rows::line::{ENTRY_SIZE, LINE_SIZE};
 use rows::unit_lines::StoredLines;
 use std::io::{self, Write};
 use streams::split_number;
@@ -15,27 +16,10 @@ use tlv::model::AddressRange;
 // A row in the table, and room for it among a function's rows.
 const STORED: usize = LINE_SIZE + ENTRY_SIZE;
 
-// A query: start (8 bytes), end (8), whether a sequence is asked for (1), its offset (8), how many rows at the front the loop passes over at once (4).
-const QUERY_SEQUENCE: usize = 16;
-
-const QUERY_MOST: usize = QUERY_SEQUENCE + 9;
+// A query of rows, and behind it how many rows at the front the loop passes over at once (4 bytes).
+const QUERY_MOST: usize = crate::QUERY_SIZE;
 
 const QUERY_SIZE: usize = QUERY_MOST + 4;
-
-// Stores the `count` rows of a call as they come.
-fn store_rows(call: &[u8], count: usize, work: &mut [u8])
-    requires in_call { count * line_size ≤ length call.now }
-    requires work_fits { count * line_size ≤ length work.old }
-{
-    for i in 0..count {
-        let p = i * LINE_SIZE;
-        let line = SequencedLine {
-            entry: rows::line::entry_at(call, p),
-            statement_sequence: rows::line::sequence_at(call, p + ENTRY_SIZE),
-        };
-        rows::line::put_line(work, p, line);
-    }
-}
 
 // Whether the first `most` rows lie below a range.
 fn lie_below(work: &[u8], l: StoredLines, range: AddressRange, most: usize) -> bool
@@ -53,14 +37,14 @@ fn lie_below(work: &[u8], l: StoredLines, range: AddressRange, most: usize) -> b
     )
 }
 
-// False where one of the rows at the front does not lie below the range.
+// Writes the place of the first row at or past the range's end, or how many rows there are, and the rows of the range that are of the sequence asked for.
+// False, with nothing written, where one of the rows at the front does not lie below the range, or there are fewer rows than wanted there.
 fn answer_query(
     out: &mut impl Write,
-    query: &[u8],
+    query: &[u8; QUERY_SIZE],
     work: &mut [u8],
     l: StoredLines,
 ) -> io::Result<bool>
-    requires query_len { QUERY_SIZE ≤ length query.now }
     requires rows_below_buffer { l.lines.base + l.lines.count * line_size ≤ l.buffer }
     requires buffer_within { l.buffer + l.lines.count * entry_size ≤ length work.old }
 {
@@ -70,7 +54,7 @@ fn answer_query(
     if l.lines.count < wanted || !lie_below(work, l, range, wanted) {
         return Ok(false);
     }
-    let own = rows::unit_lines::own_rows(work, l, range, asked, l.buffer, wanted);
+    let own = l.own_rows(work, range, asked, l.buffer, wanted);
     let past = own.past;
     write!(out, "\nplace {past}")?;
     write_rows(out, work, Stored::new(l.buffer, own.count))?;
@@ -87,8 +71,9 @@ fn answer_queries(
     requires rows_below_buffer { l.lines.base + l.lines.count * line_size ≤ l.buffer }
     requires buffer_within { l.buffer + l.lines.count * entry_size ≤ length work.old }
 {
+    let (queries, _) = queries.as_chunks::<QUERY_SIZE>();
     // Stays a `for` with a `return`: writing an answer may fail, which `?` hands on, and of a closure that writes the work slice nothing is known.
-    for query in queries.chunks_exact(QUERY_SIZE) {
+    for query in queries {
         if !answer_query(out, query, work, l)? {
             return Ok(false);
         }
@@ -109,7 +94,7 @@ pub fn answer_front(out: &mut impl Write, call: &[u8], work: &mut [u8]) -> io::R
     if work.len() / STORED < count {
         return Ok(false);
     }
-    store_rows(rows, count, work);
+    work[..rows.len()].copy_from_slice(rows);
     write!(out, "front {count}")?;
     let l = StoredLines {
         lines: Stored::new(0, count),

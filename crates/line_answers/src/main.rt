@@ -1,7 +1,6 @@
 // Reads calls of the lines layer from standard input and writes what its functions answer (oracle/README.md says how both stand).
 #![tactic(auto)]
 
-ghost use Rattle.std.specs.Prelude.{◌+◌, ◌*◌, ◌≤◌, length};
 ghost use Rattle.rows.specs.Selects.{RowsIn};
 
 use crate::collected::collect_case;
@@ -45,26 +44,21 @@ const QUERY_SIZE: usize = QUERY_SEQUENCE + 9;
 // The rows of a query's range.
 fn answer_query(
     out: &mut impl Write,
-    query: &[u8],
+    query: &[u8; QUERY_SIZE],
     work: &mut [u8],
     l: StoredLines,
 ) -> io::Result<()>
-    requires query_len { QUERY_SIZE ≤ length query.now }
-    requires rows_in { RowsIn work.old l }
+    requires { RowsIn work.old l }
     ensures { RowsIn work.new l }
 {
     let range = AddressRange::read(query, 0);
-    let r = rows::unit_lines::for_range(
-        work,
-        l,
-        range,
-        rows::line::sequence_at(query, QUERY_SEQUENCE),
-    );
+    let r = l.for_range(work, range, rows::line::sequence_at(query, QUERY_SEQUENCE));
     let invalid = u8::from(r.invalid);
     write!(out, "\nrows {invalid}")?;
     write_rows(out, work, r.rows)
 }
 
+// Stays beside the `answer_queries` of front, look_answers and search_answers: alike is one loop, and each answers by what it is lent.
 fn answer_queries(
     out: &mut impl Write,
     queries: &[u8],
@@ -73,7 +67,8 @@ fn answer_queries(
 ) -> io::Result<()>
     requires { RowsIn work.old l }
 {
-    for query in queries.chunks_exact(QUERY_SIZE) {
+    let (queries, _) = queries.as_chunks::<QUERY_SIZE>();
+    for query in queries {
         answer_query(out, query, work, l)?;
     }
     Ok(())
@@ -164,7 +159,7 @@ fn next_answer(
     Ok(answered)
 }
 
-// Stays a `main` of its own: what it lends are arrays of its own sizes.
+// Stays a `main` of its own: the sizes are search_answers' too, but here a call's kind stands before it.
 fn main(rt: HostRuntime) -> io::Result<()> {
     let mut buffer = [0u8; CALL_LIMIT];
     let mut work = [0u8; WORK_SIZE];

@@ -3,21 +3,22 @@ ghost use Rattle.std.specs.Prelude.{◌+◌, ◌*◌, ◌≤◌, length};
 ghost use Rattle.rows.specs.Sizes.{entry_size};
 
 use buffers::table::Stored;
+use line_program::lines::OFFSET_RECORD;
 use rows::line::ENTRY_SIZE;
 use std::io::{self, Write};
-use tlv::bytes::Number;
 use tlv::model::LineEntry;
 
 // The numbers of a table, eight bytes each.
 pub fn write_offsets(out: &mut impl Write, table: &[u8]) -> io::Result<()> {
     write!(out, "sequences")?;
-    for bytes in table.chunks_exact(8) {
-        let offset = u64::read(bytes, 0);
-        write!(out, " {offset:x}")?;
+    let (offsets, _) = table.as_chunks::<OFFSET_RECORD>();
+    for &offset in offsets {
+        write!(out, " {:x}", u64::from_le_bytes(offset))?;
     }
     Ok(())
 }
 
+// Stays beside compactions' write_row, which says why.
 fn write_entry(out: &mut impl Write, entry: LineEntry) -> io::Result<()> {
     let address = entry.address;
     let file = entry.file.0;

@@ -3,7 +3,7 @@ use crate::output::write_offsets;
 use line_program::lines::{OFFSET_RECORD, SEQUENCE_LEAST, scan_line_sequence_offsets};
 use line_program::operand::{Operand, read_line_uleb};
 use std::io::{self, Write};
-use streams::{write_name, write_refused};
+use streams::{split_short_part, write_name, write_refused};
 use tlv::bytes::Number;
 
 // What stands of a line program's call before the lengths of its opcodes.
@@ -61,11 +61,9 @@ pub fn answer_path(out: &mut impl Write, path: &[u8]) -> io::Result<()> {
 }
 
 // The length of the first component (2 bytes), the first, the second.
+// Stays beside `answer_rows`: the cut is streams', and what is done with the parts is each call's own.
 pub fn answer_join(out: &mut impl Write, call: &[u8], work: &mut [u8]) -> io::Result<bool> {
-    let Some((size, rest)) = call.split_first_chunk() else {
-        return Ok(false);
-    };
-    let Some((first, second)) = rest.split_at_checked(u16::from_le_bytes(*size) as usize) else {
+    let Some((first, second)) = split_short_part(call) else {
         return Ok(false);
     };
     join(out, first, second, work)

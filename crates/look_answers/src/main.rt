@@ -1,19 +1,14 @@
 // Reads records trays and queries of them from standard input and writes what the look-ups answer (oracle/README.md says how both stand).
 #![tactic(auto)]
 
-ghost use Rattle.std.specs.Prelude.{◌≤◌, length};
-
 use lookup::address::look_up;
 use lookup::below::nearest_below;
 use lookup::model::Chain;
 use lookup::window::{functions_crossing, functions_inside};
-use std::io::{self, Read, Write};
-use streams::{answer_all, answer_next, split_part, write_refused};
+use std::io::{self, Write};
+use streams::{FILLED, answer_all, answer_next, split_part, write_refused};
 use tlv::bytes::Number;
 use tlv::refusal::Refusal;
-
-// The byte that a list is filled with before it is lent.
-const FILLED: u8 = 0xa5;
 
 // A query: its kind (1 byte), an address or a window's start (8), the window's end (8), the length of the list that is lent (2).
 const FIRST: usize = 1;
@@ -107,9 +102,12 @@ fn answer_window<F: FnOnce(&mut [u8]) -> Result<usize, Refusal>>(
 }
 
 // What a query asks of a tray.
-fn answer_query(out: &mut impl Write, tray: &[u8], query: &[u8], list: &mut [u8]) -> io::Result<()>
-    requires { QUERY_SIZE ≤ length query.now }
-{
+fn answer_query(
+    out: &mut impl Write,
+    tray: &[u8],
+    query: &[u8; QUERY_SIZE],
+    list: &mut [u8],
+) -> io::Result<()> {
     let first = u64::read(query, FIRST);
     let second = u64::read(query, SECOND);
     let room = u16::read(query, ROOM) as usize;
@@ -126,13 +124,15 @@ fn answer_query(out: &mut impl Write, tray: &[u8], query: &[u8], list: &mut [u8]
     }
 }
 
+// Stays beside line_answers' and search_answers' `answer_queries`: alike is one loop, and each answers by what it is lent.
 fn answer_queries(
     out: &mut impl Write,
     tray: &[u8],
     queries: &[u8],
     list: &mut [u8],
 ) -> io::Result<()> {
-    for query in queries.chunks_exact(QUERY_SIZE) {
+    let (queries, _) = queries.as_chunks::<QUERY_SIZE>();
+    for query in queries {
         answer_query(out, tray, query, list)?;
         writeln!(out)?;
     }
@@ -140,6 +140,7 @@ fn answer_queries(
 }
 
 // The length of the tray (4 bytes), the tray, the queries; false where the call is cut off.
+// Stays beside line_answers' `answer_rows` and search_answers' `answer`: the cut is shared, and what is done with the parts is each program's own.
 fn answer(out: &mut impl Write, call: &[u8], list: &mut [u8]) -> io::Result<bool> {
     let Some((tray, queries)) = split_part(call) else {
         return Ok(false);
@@ -148,22 +149,14 @@ fn answer(out: &mut impl Write, call: &[u8], list: &mut [u8]) -> io::Result<bool
     Ok(true)
 }
 
-// Answers the next call; false where that can't be done, with a message.
-fn next_answer(
-    input: &mut impl Read,
-    out: &mut impl Write,
-    buffer: &mut [u8],
-    list: &mut [u8],
-) -> io::Result<bool> {
-    answer_next(input, out, buffer, |out, call| answer(out, call, list))
-}
-
 // Stays a `main` of its own: what it lends are arrays of its own sizes.
 fn main(rt: HostRuntime) -> io::Result<()> {
     let mut buffer = [0u8; CALL_LIMIT];
     let mut list = [0u8; LIST_LIMIT];
     let mut out = io::writer(&rt);
     answer_all(&mut rt.reader(), |input| {
-        next_answer(input, &mut out, &mut buffer, &mut list)
+        answer_next(input, &mut out, &mut buffer, |out, call| {
+            answer(out, call, &mut list)
+        })
     })
 }

@@ -24,8 +24,6 @@ use Rattle.files.specs.declared.store.StoredFiles.{StoredFiles}
 use Rattle.files.proofs.FewLaws.{tags-few, possible-few, directories-few, files-few_in}
 use Rattle.files.specs.Interns.{map_extent}
 use Rattle.buffers.specs.declared.table.Stored.{Stored}
-use Rattle.access.specs.declared.index.EntryPlace.{EntryPlace}
-use Rattle.access.specs.declared.units.UnitSpan.{UnitSpan}
 use Rattle.tlv.specs.declared.model.FileIndex.{FileIndex}
 use Rattle.references.specs.declared.tables.Index.{Index}
 use Rattle.references.specs.declared.trails.Trail.{Trail}
@@ -53,18 +51,17 @@ units-fit s n base w e h = omega (arith, unit_places-length 0 (fields s), tags-f
 pub entries_fit : (s : List ℕ) (n base w w' : ℕ) → Accepts s n → base + n * 40 ≤ w → w' ≡ w → base + n * 24 + 16 * length (payloads 0x17 (whole_fields (fields s))) ≤ w'
 entries_fit s n base w w' e h same = omega (arith, tags-few s n e)
 
-pub sheet-indexed : {s w w₁ w₂ : List ℕ} {base n a b : ℕ} → Accepts s n → base + n * 40 ≤ length w → IndexedUnits s w w₁ base a → Indexed s w₁ w₂ (base + n * 24) b
-    → {units : Stored UnitSpan} {entries : Stored EntryPlace} → units.base ≡ base → units.count ≡ a → entries.base ≡ base + n * 24 → entries.count ≡ b
-    → IndexedSheet s w w₂ base n (record { units = units; entries = entries })
-sheet-indexed {s} {w} {w₁} {w₂} {base} {n} {a} {b} e h A B ub uc eb ec =
-    let units-few : a ≤ n = omega (arith, A.count, unit_places-length 0 (fields s), tags-few s n e) in
-    let entries-few : b ≤ n = omega (arith, B.count, index-length 0 0 0 (fields s), tags-few s n e) in
+pub sheet-indexed : {s w w₁ w₂ : List ℕ} {base n : ℕ} {r : Index} → Accepts s n → base + n * 40 ≤ length w → r.units.base ≡ base → r.entries.base ≡ base + n * 24
+    → IndexedUnits s w w₁ base r.units.count → Indexed s w₁ w₂ (base + n * 24) r.entries.count → IndexedSheet s w w₂ base n r
+sheet-indexed {s} {w} {w₁} {w₂} {base} {n} {r} e h ub eb A B =
+    let units-few : r.units.count ≤ n = omega (arith, A.count, unit_places-length 0 (fields s), tags-few s n e) in
+    let entries-few : r.entries.count ≤ n = omega (arith, B.count, index-length 0 0 0 (fields s), tags-few s n e) in
     record {
       index = record {
         number = n;
         accepted = e;
-        units = rw (ub, uc) (records-kept unit_of24 24 base a B.rest (inl (omega arith)) ∙ A.table);
-        entries = rw (eb, ec) B.table;
+        units = rw ub (records-kept unit_of24 24 base r.units.count B.rest (inl (omega arith)) ∙ A.table);
+        entries = rw eb B.table;
         units-within = omega (arith, A.size, B.size);
         entries-within = omega (arith, A.size, B.size);
       };
@@ -72,7 +69,7 @@ sheet-indexed {s} {w} {w₁} {w₂} {base} {n} {a} {b} e h A B ub uc eb ec =
       entries-above = omega arith;
       units-below = omega arith;
       entries_within = omega arith;
-      few = rw ec entries-few;
+      few = entries-few;
       rest = kept_trans (kept-wide base (n * 40) A.rest (omega arith) (omega arith)) (kept-wide base (n * 40) B.rest (omega arith) (omega arith));
       size = B.size ∙ A.size;
     }

@@ -49,6 +49,7 @@ fn answer_accepted(
     Ok(true)
 }
 
+// Stays two matches: of one function with `?` for both sheets the contract would say of both numbers what check_input says of each.
 fn answer_sheets(
     out: &mut impl Write,
     main: &[u8],
@@ -73,6 +74,7 @@ fn answer_sheets(
 
 // The lengths of both sheets (4 bytes each), the main sheet, the supplementary one, the queries; false where the call is cut off or has no room.
 // Stays beside line_answers' `answer_rows`: the cut is shared, and what is done with the parts is each program's own.
+// Stays with output, call and work apart, as in line_answers: answer_front says why.
 fn answer(out: &mut impl Write, call: &[u8], work: &mut [u8]) -> io::Result<bool> {
     let Some((main, supplementary, queries)) = split_parts(call) else {
         return Ok(false);
@@ -80,7 +82,7 @@ fn answer(out: &mut impl Write, call: &[u8], work: &mut [u8]) -> io::Result<bool
     answer_sheets(out, main, supplementary, queries, work)
 }
 
-// Stays a `main` of its own: what it lends are arrays of its own sizes.
+// Stays a `main` of its own: the sizes are line_answers' too, but there a call's kind stands before it.
 fn main(rt: HostRuntime) -> io::Result<()> {
     let mut buffer = [0u8; CALL_LIMIT];
     let mut work = [0u8; WORK_SIZE];

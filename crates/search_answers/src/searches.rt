@@ -1,5 +1,4 @@
 // The queries of two sheets: the three searches from an entry, each with how many entries it read.
-ghost use Rattle.std.specs.Prelude.{◌≤◌, length};
 ghost use Rattle.references.specs.Tables.{EntryKnown};
 ghost use Rattle.search_answers.specs.Searches.{Ready};
 
@@ -32,7 +31,7 @@ pub struct Searches<'a> {
     pub files: usize,
 }
 
-impl<'a> Searches<'a> {
+impl Searches<'_> {
     // The name of an entry.
     fn answer_name(self, out: &mut impl Write, work: &mut [u8], entry: EntryPlace) -> io::Result<()>
         requires searches_in { Ready self work.old }
@@ -87,9 +86,13 @@ impl<'a> Searches<'a> {
     }
 
     // What a query asks of the entry at its offset.
-    fn answer_query(self, out: &mut impl Write, query: &[u8], work: &mut [u8]) -> io::Result<()>
-        requires query_len { QUERY_SIZE ≤ length query.now }
-        requires searches_in { Ready self work.old }
+    fn answer_query(
+        self,
+        out: &mut impl Write,
+        query: &[u8; QUERY_SIZE],
+        work: &mut [u8],
+    ) -> io::Result<()>
+        requires { Ready self work.old }
         ensures { Ready self.entry work.new }
     {
         let tables = self.places.tables;
@@ -106,6 +109,7 @@ impl<'a> Searches<'a> {
     }
 
     // A line for each query.
+    // Stays beside line_answers' and look_answers' `answer_queries`: alike is one loop, and each answers by what it is lent.
     pub fn answer_queries(
         self,
         out: &mut impl Write,
@@ -114,7 +118,8 @@ impl<'a> Searches<'a> {
     ) -> io::Result<()>
         requires { Ready self work.old }
     {
-        for query in queries.chunks_exact(QUERY_SIZE) {
+        let (queries, _) = queries.as_chunks::<QUERY_SIZE>();
+        for query in queries {
             self.answer_query(out, query, work)?;
             end_line(out)?;
         }

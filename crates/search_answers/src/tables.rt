@@ -3,33 +3,36 @@ ghost use Rattle.std.specs.Prelude.{◌+◌, ◌*◌, ◌^◌, ◌≤◌, ◌<�
 ghost use Rattle.tlv.specs.Checked.{Accepts};
 ghost use Rattle.search_answers.specs.Searches.{Room, HasRoom, IndexedSheet, BuildsTables};
 
-use access::units::UNIT_RECORD;
+use access::index::{ENTRY_RECORD, index_entries};
+use access::units::{UNIT_RECORD, index_units};
 use buffers::table::Stored;
 use declarations::declaring::Places;
 use files::index::INDEX_RECORD;
 use files::sheets::Sheets;
 use files::spans::SPAN_RECORD;
 use files::store::{FILE_RECORD, JOINED_LIMIT};
+use references::keys::{CHAIN_HEAD, KEY_RECORD};
 use references::tables::{Index, Tables};
+use tlv::grammar::FIELD_LIMIT;
 
-// Sheets of so many bytes and fields, and none larger.
+// Sheets of fewer bytes.
 const SHEET_LIMIT: usize = 4294967296;
 
-const FIELD_LIMIT: usize = 65536;
-
-// What the tables take of the work slice for a field of the main sheet, and for one of the supplementary sheet.
-const MAIN_FIELD: usize = 110;
-
-const SUPPLEMENTARY_FIELD: usize = 123;
-
 // A unit's record and an entry's.
-const FIELD_TABLES: usize = 40;
+const FIELD_TABLES: usize = UNIT_RECORD + ENTRY_RECORD;
+
+// What the tables take of the work slice for a field of the main sheet, whichever it is: a file's record, a directory's span or a place in the unit's map,
+// which is no larger, a unit's or an entry's record, the head of an entry's chain and the target of an attribute.
+const MAIN_FIELD: usize = FILE_RECORD + SPAN_RECORD + FIELD_TABLES + CHAIN_HEAD + KEY_RECORD;
+
+// An attribute of the supplementary sheet can give two targets.
+const SUPPLEMENTARY_FIELD: usize = MAIN_FIELD + KEY_RECORD;
 
 // What the file table takes besides a record for each file: the longest joined path, and a record more.
 const TABLE_BESIDES: usize = JOINED_LIMIT + FILE_RECORD;
 
-// What all tables take besides so much for each field.
-const ROOM_BESIDES: usize = JOINED_LIMIT + 54;
+// What all tables take besides so much for each field: the file table's besides, a place in the unit's map and the head of a chain more.
+const ROOM_BESIDES: usize = TABLE_BESIDES + INDEX_RECORD + CHAIN_HEAD;
 
 // Whether a work slice has room for the tables of two sheets of so many bytes and fields, for their files below and the targets that a search follows above.
 pub fn has_room(main: usize, supplementary: usize, n: usize, m: usize, work: usize) -> bool
@@ -37,8 +40,8 @@ pub fn has_room(main: usize, supplementary: usize, n: usize, m: usize, work: usi
 {
     main < SHEET_LIMIT
         && supplementary < SHEET_LIMIT
-        && n <= FIELD_LIMIT
-        && m <= FIELD_LIMIT
+        && n as u64 <= FIELD_LIMIT
+        && m as u64 <= FIELD_LIMIT
         && n * MAIN_FIELD + m * SUPPLEMENTARY_FIELD + ROOM_BESIDES <= work
 }
 
@@ -50,12 +53,9 @@ fn index_sheet(s: &[u8], n: usize, work: &mut [u8], base: usize) -> Index
     requires tables_fit { base + n * 40 ≤ length work.old }
     ensures { IndexedSheet s.now work.old work.new base n result }
 {
-    let entries = base + n * UNIT_RECORD;
-    let unit_count = access::units::index_units(s, work, base);
-    let entry_count = access::index::index_entries(s, work, entries);
     Index {
-        units: Stored::new(base, unit_count),
-        entries: Stored::new(entries, entry_count),
+        units: index_units(s, work, base),
+        entries: index_entries(s, work, base + n * UNIT_RECORD),
     }
 }
 
