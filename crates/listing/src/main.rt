@@ -1,8 +1,6 @@
 // Document 01's listing program: imports unit 0 of unit.main, with unit.sup and unit.line, and prints what the import gives.
 #![tactic(auto)]
 
-ghost use Rattle.std.specs.Prelude.{◌≤◌, IfOk, length};
-
 use buffers::warning::WarningKind;
 use dwarf::import::import_unit;
 use dwarf::lent::Inputs;
@@ -10,7 +8,7 @@ use lookup::model::{FUNCTION_SIZE, NODE_SIZE, RANGE_SIZE, ROW_SIZE, SITE_SIZE};
 use std::fs;
 use std::io::{self, Write};
 use std::rt::Files;
-use streams::{read_full, write_refused_line};
+use streams::{read_full, split_short_part, write_refused_line};
 use subprograms::model::{ConversionStats, Outputs};
 use tlv::bytes::Number;
 use tlv::fields::next_field;
@@ -32,14 +30,13 @@ const WORK_SIZE: usize = 57344;
 
 const TRAY_SIZE: usize = 32768;
 
-// Reads the file of a name, as far as the buffer goes, and answers how many bytes came; a file that can't be opened is empty.
-fn read_file(rt: &impl Files, name: &str, buffer: &mut [u8]) -> io::Result<usize>
-    ensures { IfOk result (λ n. n ≤ length buffer.new) }
-{
-    match fs::open(rt, name) {
-        Ok(mut file) => read_full(&mut file, buffer),
-        Err(_) => Ok(0),
-    }
+// Reads the file of a name, as far as the buffer goes, and lends the bytes that came; a file that can't be opened is empty.
+fn read_file<'a>(rt: &impl Files, name: &str, buffer: &'a mut [u8]) -> io::Result<&'a [u8]> {
+    let n = match fs::open(rt, name) {
+        Ok(mut file) => read_full(&mut file, buffer)?,
+        Err(_) => 0,
+    };
+    Ok(&buffer[..n])
 }
 
 fn write_text(out: &mut impl Write, s: &[u8]) -> io::Result<()> {
@@ -109,10 +106,7 @@ fn write_site(out: &mut impl Write, p: &[u8]) -> io::Result<()> {
 
 // 40: directory length, directory, basename; its number in the table goes before them.
 fn write_file(out: &mut impl Write, p: &[u8], number: u64) -> io::Result<()> {
-    let Some((size, rest)) = p.split_first_chunk() else {
-        return Ok(());
-    };
-    let Some((directory, name)) = rest.split_at_checked(u16::from_le_bytes(*size) as usize) else {
+    let Some((directory, name)) = split_short_part(p) else {
         return Ok(());
     };
     out.write_all(b"file ")?;
@@ -126,6 +120,7 @@ fn write_file(out: &mut impl Write, p: &[u8], number: u64) -> io::Result<()> {
 const NUMBERS_SIZE: usize = 16;
 
 // 46: kind, then two numbers, or of the first two kinds, malformed ranges, the reason.
+// Stays a number: the byte of the tray is written as it stands, and only whether it is 1 or 2 is asked.
 fn write_warning(out: &mut impl Write, p: &[u8]) -> io::Result<()> {
     let Some((&kind, rest)) = p.split_first() else {
         return Ok(());
@@ -207,14 +202,16 @@ fn list_files(rt: &impl Files, out: &mut impl Write) -> io::Result<()> {
     let mut main = [0u8; INPUT_LIMIT + 1];
     let mut supplementary = [0u8; INPUT_LIMIT + 1];
     let mut program = [0u8; PROGRAM_LIMIT + 1];
-    let m = read_file(rt, "unit.main", &mut main)?;
-    let s = read_file(rt, "unit.sup", &mut supplementary)?;
-    let l = read_file(rt, "unit.line", &mut program)?;
-    if INPUT_LIMIT < m || INPUT_LIMIT < s || PROGRAM_LIMIT < l {
+    let main = read_file(rt, "unit.main", &mut main)?;
+    let supplementary = read_file(rt, "unit.sup", &mut supplementary)?;
+    let program = read_file(rt, "unit.line", &mut program)?;
+    if INPUT_LIMIT < main.len()
+        || INPUT_LIMIT < supplementary.len()
+        || PROGRAM_LIMIT < program.len()
+    {
         return out.write_all(b"oversize\n");
     }
-    let inputs = Inputs::new(&main[..m], &supplementary[..s], &program[..l], b"", b"");
-    list(out, inputs)
+    list(out, Inputs::new(main, supplementary, program, b"", b""))
 }
 
 fn main(rt: HostRuntime) -> io::Result<()> {

@@ -17,6 +17,7 @@ pub const ANSWER_HEAD: usize = 57;
 const SECTIONS_HEAD: usize = 8;
 
 // The byte of a case's switches, and the number of each: its bit there.
+// Stays four numbers: an enum would be cast to them, and that each is below 8 shown by cases.
 const SWITCHES: usize = 20;
 
 const INLINES: u32 = 0;

@@ -3,12 +3,9 @@ use crate::cases::Answer;
 use dwarf::model::{Imported, Lengths};
 use std::fmt;
 use std::io::{self, Read};
-use streams::read_full;
+use streams::{FILLED, read_full};
 use subprograms::model::Outputs;
 use tlv::refusal::Refusal;
-
-// What stands in the output buffers and in work before a call.
-pub const FILLED: u8 = 0xa5;
 
 // In what a case differs from its recorded answer.
 // Stays an enum: each case of it is a difference of its own, which is told by name.
@@ -56,7 +53,7 @@ pub struct Recorded<'a, R> {
 
 impl<'a, R: Read> Recorded<'a, R> {
     // Whether a buffer begins with the n bytes that come next, and is as it was behind them.
-    // Stays an Option, as all that judge: a difference is what is looked for and no failure, and each is handed on as it was found.
+    // Stays an Option, as all that judge: inside io::Result `?` hands on the outer failure alone, so a Result would be tested case by case too.
     fn judge_buffer(&mut self, buffer: &[u8], n: usize) -> io::Result<Option<Difference>> {
         if self.room.len() < n {
             return Ok(Some(Difference::Cut));

@@ -1,10 +1,11 @@
 // Runs a case: the pass that writes no buffer, then the import.
 use crate::cases::Case;
-use crate::judge::{Difference, FILLED, Recorded, judge_pass};
+use crate::judge::{Difference, Recorded, judge_pass};
 use dwarf::import::{import_dwarf, import_unit, measure_dwarf, measure_unit};
 use dwarf::lent::Inputs;
 use dwarf::model::{Imported, Lengths};
 use std::io::{self, Read};
+use streams::FILLED;
 use subprograms::model::Outputs;
 use tlv::refusal::Refusal;
 
@@ -41,6 +42,7 @@ fn import_case(
 }
 
 // A case over its inputs and over buffers of its lengths: the pass, then the import.
+// Stays with what is lent apart, as its neighbours: the pass is lent no outputs, and judge_pass and judge no inputs.
 fn run_both<R: Read>(
     recorded: &mut Recorded<R>,
     case: Case,
@@ -56,6 +58,19 @@ fn run_both<R: Read>(
     recorded.judge(given, work, outputs)
 }
 
+// The inputs of a case, one behind the other; none where they are cut off. A case without sections has an empty list section and address table.
+fn inputs_of<'a>(case: Case, bytes: &'a [u8]) -> Option<Inputs<'a>> {
+    let (main, rest) = bytes.split_at_checked(case.main as usize)?;
+    let (supplementary, rest) = rest.split_at_checked(case.supplementary as usize)?;
+    let (program, rest) = rest.split_at_checked(case.program as usize)?;
+    let Some(sections) = case.sections else {
+        return Some(Inputs::new(main, supplementary, program, b"", b""));
+    };
+    let (lists, rest) = rest.split_at_checked(sections.lists as usize)?;
+    let (addresses, _) = rest.split_at_checked(sections.addresses as usize)?;
+    Some(Inputs::new(main, supplementary, program, lists, addresses))
+}
+
 // A case whose inputs were read, over those and over buffers of its lengths.
 pub fn run_case<R: Read>(
     recorded: &mut Recorded<R>,
@@ -64,25 +79,8 @@ pub fn run_case<R: Read>(
     work: &mut [u8],
     outputs: &mut Outputs,
 ) -> io::Result<Option<Difference>> {
-    let main = case.main as usize;
-    let second = main + case.supplementary as usize;
-    let third = second + case.program as usize;
-    let (fourth, end) = match case.sections {
-        None => (third, third),
-        Some(sections) => {
-            let fourth = third + sections.lists as usize;
-            (fourth, fourth + sections.addresses as usize)
-        }
-    };
-    if bytes.len() < end {
+    let Some(inputs) = inputs_of(case, bytes) else {
         return Ok(Some(Difference::Cut));
-    }
-    let inputs = Inputs::new(
-        &bytes[..main],
-        &bytes[main..second],
-        &bytes[second..third],
-        &bytes[third..fourth],
-        &bytes[fourth..end],
-    );
+    };
     run_both(recorded, case, inputs, work, outputs)
 }
