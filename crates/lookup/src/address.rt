@@ -109,7 +109,7 @@ pub fn chain_at(s: &[u8], own: usize, address: u64) -> Chain
 }
 
 // What is running at an address: the first function in the tray that holds it, its row in force, the chain of its nodes that hold it.
-// Stays beside look_index's look_up_in: alike is the struct of three calls, behind a search of its own in each.
+// Stays beside look_index's look_up_in: alike are row_in_force and chain_at, which fill the struct, behind a search of its own in each.
 pub fn look_up(s: &[u8], address: u64) -> Result<LookedUp, Refusal>
     ensures { LooksUp s.now address result }
 {
