@@ -67,9 +67,6 @@ overlay-whole bs t h = overlay-sets 0 bs t ∙ (rw zero-add at (sets-eq bs t 0 (
 pub mid-overlay : (at k : ℕ) (bs ys t : List ℕ) → ys ≡ bs → k ≡ length bs → at + k ≤ length t → put_mid at k t ys ≡ overlay at bs t
 mid-overlay at k bs ys t e n h = rw (e, n, drop-drop (length bs) at t, overlay-sets at bs t, sets-eq bs t at (omega arith), append_assoc (take at t) bs (drop (at + length bs) t))
 
-pub laid : {at k : ℕ} {bs ys t : List ℕ} → ys ≡ bs → k ≡ length bs → at + k ≤ length t → length t < top → Put at bs t (put_mid at k t ys) (at + length bs)
-laid {at} {k} {bs} {ys} {t} e n h small = record { buffer = mid-overlay at k bs ys t e n h; place = omega arith; small = small }
-
 -- ---- puts
 
 infixl 5 ◌then◌
@@ -127,6 +124,12 @@ put-more bs i h f g = rw (add-one i, take-suc bs i 0) (f then g)
 
 pub put_all : {at r i : ℕ} {bs t t' : List ℕ} → length bs ≤ i → Put at (take i bs) t t' r → Put at bs t t' r
 put_all {i = i} {bs = bs} h f = rw (take_all i bs h) at f
+
+-- one byte more, where all of the list fits
+pub put_next : {at : ℕ} {t t' : List ℕ} (bs : List ℕ) (i : ℕ) → Put at (take i bs) t t' (at + i) → i < length bs → at + length bs ≤ length t → Put at (take (i + 1) bs) t (set t' (at + i) (get_or bs i 0)) (at + (i + 1))
+put_next {at} {t} {t'} bs i f h fits =
+    let same : length t' ≡ length t = put-length f in
+    put-more bs i h f (record { buffer = refl; place = omega (arith, f.small); small = omega (arith, f.small) })
 
 -- ---- a loop of puts
 

@@ -63,14 +63,16 @@ pub(crate) fn advance(at: usize, n: usize) -> usize
     at.saturating_add(n)
 }
 
-// Bytes that all fit.
+// Bytes that all fit: no test in the loop.
+// Stays a loop: `copy_from_slice` calls C's `memmove`, a name that the library for C asks for nowhere.
 fn lay_bytes(buffer: &mut [u8], at: usize, bs: &[u8]) -> usize
     requires { at + length bs.now ≤ length buffer.old }
     ensures { Put at bs.now buffer.old buffer.new result }
 {
-    let end = at + bs.len();
-    buffer[at..end].copy_from_slice(bs);
-    end
+    for i in 0..bs.len() {
+        buffer[at + i] = bs[i];
+    }
+    at + bs.len()
 }
 
 // Bytes that may meet the tray's end.
@@ -205,19 +207,12 @@ fn put_kind(buffer: &mut [u8], at: usize, kind: WarningKind) -> usize
 }
 
 // 46 warning of two numbers: kind 1 byte, the numbers.
-pub fn put_warning(
-    buffer: &mut [u8],
-    at: usize,
-    kind: WarningKind,
-    first: u64,
-    second: u64,
-) -> usize
-    ensures { Put at (encode tray_warning_tag ((number_of kind ∷ []) ++ bytes_of 8 first ++ bytes_of 8 second)) buffer.old
-        buffer.new
-        result }
+// Stays with a byte for the kind: any may be written, and callers say theirs by `WarningKind::number`.
+pub fn put_warning(buffer: &mut [u8], at: usize, kind: u8, first: u64, second: u64) -> usize
+    ensures { Put at (encode tray_warning_tag ((kind ∷ []) ++ bytes_of 8 first ++ bytes_of 8 second)) buffer.old buffer.new result }
 {
     let headed = put_head(buffer, at, TRAY_WARNING_TAG, 17);
-    let kinded = put_kind(buffer, headed, kind);
+    let kinded = put_u8(buffer, headed, kind);
     let begun = put(buffer, kinded, first);
     put(buffer, begun, second)
 }

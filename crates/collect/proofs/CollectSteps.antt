@@ -5,7 +5,7 @@ use mathlib.Core.Option.{none, some}
 use Prim.Native.Nat.{ℕ, ◌+◌, ◌≤◌, ◌<◌}
 use native.Mathlib.Omega.{arith}
 use lib.ListN.{length}
-use Rattle.std.specs.Prelude.{Option as Maybe, None, Ok}
+use Rattle.std.specs.Prelude.{Option as Maybe, None, Some, Ok}
 use Rattle.tlv.specs.declared.model.FileIndex.{FileIndex}
 use Rattle.tlv.specs.Outcome.{Outcome, refused, done, ◌>>=◌}
 use Rattle.tlv.specs.Checked.{Placed}
@@ -32,7 +32,7 @@ use Rattle.rows.proofs.StoredLaws.{lines-nil, ranges-nil}
 use Rattle.machine.specs.LineRows.{line_rows, rows_most, collect_from, collect_lines}
 use Rattle.collect.specs.declared.source.UnitProgram.{UnitProgram}
 use Rattle.collect.specs.Passes.{Counted, count_rows, count_all}
-use Rattle.collect.specs.Sources.{source_rows, most_rows, SourceFound, first_fault}
+use Rattle.collect.specs.Sources.{program_in, source_rows, most_rows, rows_with, most_with, ProgramLent, SourceFound, first_fault}
 use Rattle.collect.specs.Collects.{lines_in, lines_extent, UnitIn, LinesRoom, CollectsLines}
 use Rattle.collect.specs.Stages.{HeaderIn, finish_run}
 use Rattle.collect.proofs.RunLaws.{count-refused, count-done}
@@ -139,6 +139,16 @@ module _ {main supplementary program w files warnings : List ℕ} {p warned free
 pub header-there : {main payload : List ℕ} {p : ℕ} → HeaderIn main p payload → (unit_here main p).header ≡ some (header_here main p)
 header-there H = H.is ∙ ap some (sym (header_is H))
 
+-- the rows by the program that is lent
+module _ (main : List ℕ) (p : ℕ) (program : List ℕ) where
+  rows-lent : (source : Maybe UnitProgram) → ProgramLent source program → source_rows main p source ≡ rows_with main p source program
+  rows-lent None L = refl
+  rows-lent (Some u) L = ap (program_in u.encoding u.lengths.now) L
+
+  most-lent : (source : Maybe UnitProgram) → ProgramLent source program → most_rows main p source ≡ most_with main p source program
+  most-lent None L = refl
+  most-lent (Some u) L = ap length L
+
 module _ {main : List ℕ} {p : ℕ} (h : Placed main 0) (U : UnitIn main p) where
   pub place-within : p + 21 ≤ length main
   place-within = unit-within (unit-stands h U)
@@ -151,8 +161,9 @@ module _ {main : List ℕ} {p : ℕ} (h : Placed main 0) (U : UnitIn main p) whe
       -- the source that was found is that of its rows
       pub source-here : source_rows main (p + 21) source ≡ line_rows (unit_here main p) (header_here main p) program
       source-here =
-          F.is (unit_here main p) (encoding-here (unit-stands h U)) (rows-here (unit-stands h U))
+          rows-lent main (p + 21) program source F.lent
+          ∙ F.is (unit_here main p) program (encoding-here (unit-stands h U)) (rows-here (unit-stands h U))
           ∙ ap (λ (x : LineHeader). line_rows (unit_here main p) x program) (sym (header_is H))
 
       pub most-here : most_rows main (p + 21) source ≡ rows_most (unit_here main p) program
-      most-here = F.most (unit_here main p) (encoding-here (unit-stands h U)) (rows-here (unit-stands h U))
+      most-here = most-lent main (p + 21) program source F.lent ∙ F.most (unit_here main p) program (encoding-here (unit-stands h U)) (rows-here (unit-stands h U))

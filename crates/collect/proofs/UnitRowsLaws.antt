@@ -6,9 +6,7 @@ use native.Mathlib.Omega.{arith}
 use lib.ListN.{length}
 use Rattle.std.specs.Prelude.{Option as Maybe, Some, None, Result, Ok, Err}
 use Rattle.std.specs.Result.{result_err}
-use Rattle.std.specs.Option.{unwrap_or}
 use Rattle.tlv.specs.declared.refusal.Refusal.{Refusal}
-use Rattle.tlv.specs.Refusals.{number_of}
 use Rattle.tlv.specs.Outcome.{Outcome, ◌>>=◌}
 use Rattle.tlv.specs.Grammar.{row_field_size}
 use Rattle.tlv.specs.Model.{LineRow, row_of}
@@ -65,11 +63,10 @@ module _ (main w : List ℕ) (p lines : ℕ) (source : Maybe UnitProgram) {u : U
 -- ---- the fault of rows comes first
 
 module _ {x : Outcome (List LineRow)} {main w w' : List ℕ} {free most : ℕ} where
-  pub fault-first : (r : Result GatheredRows Refusal) (later : Refusal) → GathersUnit x main w w' free most r
-      → FindsFault x w w' free most (number_of later) (number_of (unwrap_or (result_err r) later))
+  pub fault-first : (r : Result GatheredRows Refusal) → GathersUnit x main w w' free most r → FindsFault x w w' free most (result_err r)
   unfolding ◌>>=◌
-  fault-first (Ok r) later G = record { is = rw (G.is.is, G.is.counted.is); rest = G.rest }
-  fault-first (Err e) later G = record { is = rw G.is; rest = G.rest }
+  fault-first (Ok r) G = record { is = λ later. rw (G.is.is, G.is.counted.is); rest = G.rest }
+  fault-first (Err e) G = record { is = λ later. rw G.is; rest = G.rest }
 
 -- ---- what stays
 

@@ -37,6 +37,20 @@ abbrev pub most_rows : List ℕ → ℕ → Option UnitProgram → ℕ
 most_rows main p None = length (rows_from main p)
 most_rows main p (Some u) = length u.program.now
 
+-- the rows, and how many there can be, were another program lent
+abbrev pub rows_with : List ℕ → ℕ → Option UnitProgram → List ℕ → Outcome (List LineRow)
+rows_with main p None other = done (rows_from main p)
+rows_with main p (Some u) other = program_in u.encoding u.lengths.now other
+
+abbrev pub most_with : List ℕ → ℕ → Option UnitProgram → List ℕ → ℕ
+most_with main p None other = length (rows_from main p)
+most_with main p (Some u) other = length other
+
+-- the program is the one that is lent
+abbrev pub ProgramLent : Option UnitProgram → List ℕ → Type 0
+ProgramLent None program = Unit {0}
+ProgramLent (Some u) program = u.program.now ≡ program
+
 -- the numbers of the encoding whose payload starts at a place
 pub record EncodingRead (s : List ℕ) (start base : ℕ) (e : Encoding) : Type 0 where
   pub minimum : e.minimum_instruction_length ≡ le_at 1 s start
@@ -46,12 +60,13 @@ pub record EncodingRead (s : List ℕ) (start base : ℕ) (e : Encoding) : Type 
   pub line-range : e.line_range ≡ le_at 1 s (start + 4)
   pub opcode_base-is : e.opcode_base ≡ base
 
--- the source of the rows, and how many there can be, of any unit whose fields follow p, with its header's payload and its program
+-- the source of the rows, and how many there can be, of any unit whose fields follow p, with its header's payload and any program; it has the one that is lent
 pub record SourceFound (main : List ℕ) (p : ℕ) (payload program : List ℕ) (source : Option UnitProgram) : Type 0 where
-  pub is : (u : CompilationUnit) → u.encoding ≡ map_option encoding_of (payload_of encoding_tag (own_fields (fields (drop p main))))
-      → u.rows ≡ rows_from main p → source_rows main p source ≡ line_rows u (header_of payload) program
-  pub most : (u : CompilationUnit) → u.encoding ≡ map_option encoding_of (payload_of encoding_tag (own_fields (fields (drop p main))))
-      → u.rows ≡ rows_from main p → most_rows main p source ≡ rows_most u program
+  pub is : (u : CompilationUnit) (other : List ℕ) → u.encoding ≡ map_option encoding_of (payload_of encoding_tag (own_fields (fields (drop p main))))
+      → u.rows ≡ rows_from main p → rows_with main p source other ≡ line_rows u (header_of payload) other
+  pub most : (u : CompilationUnit) (other : List ℕ) → u.encoding ≡ map_option encoding_of (payload_of encoding_tag (own_fields (fields (drop p main))))
+      → u.rows ≡ rows_from main p → most_with main p source other ≡ rows_most u other
+  pub lent : ProgramLent source program
 
 -- ---- the rows that were gathered
 
@@ -90,6 +105,11 @@ abbrev pub first_fault : Outcome Counted → ℕ → ℕ
 first_fault (refused f) later = f
 first_fault (done k) later = later
 
-pub record FindsFault (x : Outcome (List LineRow)) (w w' : List ℕ) (free most later f : ℕ) : Type 0 where
-  pub is : f ≡ first_fault (count_all x) later
+-- the number of a fault that was found, or else a later one
+abbrev pub fault_or : Option Refusal → ℕ → ℕ
+fault_or (Some e) later = number_of e
+fault_or None later = later
+
+pub record FindsFault (x : Outcome (List LineRow)) (w w' : List ℕ) (free most : ℕ) (f : Option Refusal) : Type 0 where
+  pub is : (later : ℕ) → fault_or f later ≡ first_fault (count_all x) later
   pub rest : Kept w w' free (row_room * most)

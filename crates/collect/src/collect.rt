@@ -92,7 +92,7 @@ fn collect_header(
     let count = match scan_program(u.program, header, work, u.free) {
         Ok(count) => count,
         Err(later) => {
-            return Err(row_fault(main, p, source, work, u.free, later));
+            return Err(row_fault(main, p, source, work, u.free).unwrap_or(later));
         }
     };
     let base = u.free + count * OFFSET_RECORD;
@@ -100,7 +100,7 @@ fn collect_header(
     let interned = match intern_unit(u.sheets, u.place, work, files, t, base) {
         Ok(interned) => interned,
         Err(later) => {
-            return Err(row_fault(main, p, source, work, u.free, later));
+            return Err(row_fault(main, p, source, work, u.free).unwrap_or(later));
         }
     };
     let offsets = Stored::new(u.free, count);

@@ -100,7 +100,7 @@ impl Conversion<'_> {
             warned: put_warning(
                 warnings,
                 st.warned,
-                WarningKind::UnrepresentableLine,
+                WarningKind::UnrepresentableLine.number(),
                 row.address,
                 row.line,
             ),
@@ -159,7 +159,7 @@ impl Conversion<'_> {
                 warned: put_warning(
                     warnings,
                     st.warned,
-                    WarningKind::MissingLineFile,
+                    WarningKind::MissingLineFile.number(),
                     row.address,
                     row.file.0,
                 ),

@@ -37,7 +37,7 @@ fn warn_mismatch(warnings: &mut [u8], warned: usize, sequences: usize, offsets: 
     put_warning(
         warnings,
         warned,
-        WarningKind::LineSequenceMismatch,
+        WarningKind::LineSequenceMismatch.number(),
         sequences as u64,
         offsets as u64,
     )

@@ -93,21 +93,18 @@ pub fn gather_unit_rows(
     })
 }
 
-// The fault of a unit's rows, or where they have none a later one. The room from a place on is free.
+// The fault of a unit's rows, where they have one: it comes before any later one. The room from a place on is free.
 pub fn row_fault(
     main: &[u8],
     p: usize,
     source: Option<UnitProgram>,
     work: &mut [u8],
     free: usize,
-    later: Refusal,
-) -> Refusal
+) -> Option<Refusal>
     requires placed { Placed main.now p }
     requires rows_fit { free + row_room * most_rows main.now p source ≤ length work.old }
     ensures { FindsFault (source_rows main.now p source.entry) work.old work.new free
-        (most_rows main.now p source.entry) (number_of later) (number_of result) }
+        (most_rows main.now p source.entry) result }
 {
-    gather_unit_rows(main, p, source, work, free)
-        .err()
-        .unwrap_or(later)
+    gather_unit_rows(main, p, source, work, free).err()
 }

@@ -32,7 +32,7 @@ pub struct FoundRow {
 
 impl Row {
     // The row whose payload starts at a place, of the sequence of a number.
-    fn read(s: &[u8], start: usize, sequence: usize) -> Row
+    pub fn read(s: &[u8], start: usize, sequence: usize) -> Row
         requires { start + row_field_size ≤ length s.now }
         ensures { raw_of result ≡ raw_line (row_of (chunk s.now start row_field_size)) sequence }
     {

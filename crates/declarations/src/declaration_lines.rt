@@ -42,7 +42,7 @@ pub fn resolve_declaration_line_counted(
         at: start_at(entry),
         reached: false,
     };
-    let found = resolve(work, files, warnings, d, here, &mut state);
+    let found = resolve(work, files, warnings, &d, &here, &mut state);
     Counted {
         answer: state.answered(found),
         reads: state.trail.reads,

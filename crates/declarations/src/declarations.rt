@@ -21,18 +21,18 @@ pub fn resolve(
     work: &mut [u8],
     files: &mut [u8],
     warnings: &mut [u8],
-    d: Places,
-    here: Position,
+    d: &Places,
+    here: &Position,
     st: &mut DeclaringState,
 ) -> Result<Option<Declaration>, Refusal>
-    requires declaring_in { DeclaringIn d.tables.sheets.main.now d.tables.sheets.supplementary.now work.old d st.old }
-    requires stands { Stands d.tables.sheets.main.now d.tables.sheets.supplementary.now here.at }
-    requires reaching { Reaching d.tables.sheets.main.now d.tables.sheets.supplementary.now work.old st.old here.at here.reached }
-    ensures { let main = d.entry.tables.sheets.main.now in let supplementary = d.entry.tables.sheets.supplementary.now in
-        DeclaresCounted (counted_declaration here.at.left (dwarf_of main supplementary)
-        (place_at main supplementary here.at)
-        (indices_at main supplementary work.old d.entry st.old here.at.input here.at.entry.unit here.reached))
-        main supplementary work.old work.new files.old files.new warnings.old warnings.new d.entry st.old
+    requires declaring_in { DeclaringIn d.now.tables.sheets.main.now d.now.tables.sheets.supplementary.now work.old d.now st.old }
+    requires stands { Stands d.now.tables.sheets.main.now d.now.tables.sheets.supplementary.now here.now.at }
+    requires reaching { Reaching d.now.tables.sheets.main.now d.now.tables.sheets.supplementary.now work.old st.old here.now.at here.now.reached }
+    ensures { let main = d.now.tables.sheets.main.now in let supplementary = d.now.tables.sheets.supplementary.now in
+        DeclaresCounted (counted_declaration here.now.at.left (dwarf_of main supplementary)
+        (place_at main supplementary here.now.at)
+        (indices_at main supplementary work.old d.now st.old here.now.at.input here.now.at.entry.unit here.now.reached))
+        main supplementary work.old work.new files.old files.new warnings.old warnings.new d.now st.old
         st.old.trail.reads st.new.trail.reads (answered st.new result) }
 {
     if here.at.left == 0 {
@@ -55,27 +55,27 @@ fn resolve_reference(
     work: &mut [u8],
     files: &mut [u8],
     warnings: &mut [u8],
-    d: Places,
-    here: Position,
+    d: &Places,
+    here: &Position,
     name: u16,
     st: &mut DeclaringState,
 ) -> Result<Option<Declaration>, Refusal>
-    requires declaring_in { DeclaringIn d.tables.sheets.main.now d.tables.sheets.supplementary.now work.old d st.old }
-    requires stands { Stands d.tables.sheets.main.now d.tables.sheets.supplementary.now here.at }
-    requires reaching { Reaching d.tables.sheets.main.now d.tables.sheets.supplementary.now work.old st.old here.at here.reached }
-    ensures { let main = d.entry.tables.sheets.main.now in let supplementary = d.entry.tables.sheets.supplementary.now in
-        DeclaresCounted (resolve_reference (here.at.left - 1) main supplementary here.at
-        (indices_at main supplementary work.old d.entry st.old here.at.input here.at.entry.unit here.reached) name)
-        main supplementary work.old work.new files.old files.new warnings.old warnings.new d.entry st.old
+    requires declaring_in { DeclaringIn d.now.tables.sheets.main.now d.now.tables.sheets.supplementary.now work.old d.now st.old }
+    requires stands { Stands d.now.tables.sheets.main.now d.now.tables.sheets.supplementary.now here.now.at }
+    requires reaching { Reaching d.now.tables.sheets.main.now d.now.tables.sheets.supplementary.now work.old st.old here.now.at here.now.reached }
+    ensures { let main = d.now.tables.sheets.main.now in let supplementary = d.now.tables.sheets.supplementary.now in
+        DeclaresCounted (resolve_reference (here.now.at.left - 1) main supplementary here.now.at
+        (indices_at main supplementary work.old d.now st.old here.now.at.input here.now.at.entry.unit here.now.reached) name)
+        main supplementary work.old work.new files.old files.new warnings.old warnings.new d.now st.old
         st.old.trail.reads st.new.trail.reads (answered st.new result) }
 {
-    match way_of(work, d.tables, st.trail.count, here.at, name)? {
+    match way_of(work, &d.tables, st.trail.count, &here.at, name)? {
         None => Ok(None),
         Some(Way::Entry(next, key)) => {
-            push_key(work, d.tables, st.trail.count, key);
+            push_key(work, &d.tables, st.trail.count, key);
             st.trail = st.trail.with_entry();
-            let there = Position { at: next, ..here };
-            resolve(work, files, warnings, d, there, st)
+            let there = Position { at: next, ..*here };
+            resolve(work, files, warnings, d, &there, st)
         }
         Some(Way::Offset(next)) => resolve_absolute(work, files, warnings, d, next, st),
     }
@@ -87,23 +87,23 @@ pub fn resolve_absolute(
     work: &mut [u8],
     files: &mut [u8],
     warnings: &mut [u8],
-    d: Places,
+    d: &Places,
     at: OffsetAt,
     st: &mut DeclaringState,
 ) -> Result<Option<Declaration>, Refusal>
-    requires declaring_in { DeclaringIn d.tables.sheets.main.now d.tables.sheets.supplementary.now work.old d st.old }
-    requires aims { Aims d.tables.sheets.main.now d.tables.sheets.supplementary.now at }
-    ensures { let main = d.entry.tables.sheets.main.now in let supplementary = d.entry.tables.sheets.supplementary.now in
+    requires declaring_in { DeclaringIn d.now.tables.sheets.main.now d.now.tables.sheets.supplementary.now work.old d.now st.old }
+    requires aims { Aims d.now.tables.sheets.main.now d.now.tables.sheets.supplementary.now at }
+    ensures { let main = d.now.tables.sheets.main.now in let supplementary = d.now.tables.sheets.supplementary.now in
         DeclaresCounted (resolve_absolute at.left main supplementary at)
-        main supplementary work.old work.new files.old files.new warnings.old warnings.new d.entry st.old
+        main supplementary work.old work.new files.old files.new warnings.old warnings.new d.now st.old
         st.old.trail.reads st.new.trail.reads (answered st.new result) }
 {
-    if is_visited(work, d.tables, st.trail.count, at.key) {
+    if is_visited(work, &d.tables, st.trail.count, at.key) {
         return Ok(None);
     }
     let s = d.tables.sheets.of(at.input);
     let found = d.tables.index(at.input).target_at(s, work, at.key.offset)?;
-    push_key(work, d.tables, st.trail.count, at.key);
+    push_key(work, &d.tables, st.trail.count, at.key);
     let Some(entry) = found else {
         st.trail = st.trail.with_target();
         return Ok(None);
@@ -114,5 +114,5 @@ pub fn resolve_absolute(
         at: at.to_entry(entry),
         reached: true,
     };
-    resolve(work, files, warnings, d, there, st)
+    resolve(work, files, warnings, d, &there, st)
 }

@@ -15,16 +15,16 @@ use tlv::refusal::Refusal;
 pub fn join_files(
     work: &mut [u8],
     files: &mut [u8],
-    d: Places,
+    d: &Places,
     input: DebugSource,
     unit: usize,
     st: DeclaringState,
 ) -> Result<StoredFiles, Refusal>
-    requires declaring_in { DeclaringIn d.tables.sheets.main.now d.tables.sheets.supplementary.now work.old d st }
-    requires unit_known { UnitKnown (sheet_in d.tables.sheets input) unit }
-    ensures { let main = d.entry.tables.sheets.main.now in let supplementary = d.entry.tables.sheets.supplementary.now in
-        Joins main supplementary work.old work.new files.old files.new d.entry st.table
-        (unit_here (sheet_in d.entry.tables.sheets input) unit) result }
+    requires declaring_in { DeclaringIn d.now.tables.sheets.main.now d.now.tables.sheets.supplementary.now work.old d.now st }
+    requires unit_known { UnitKnown (sheet_in d.now.tables.sheets input) unit }
+    ensures { let main = d.now.tables.sheets.main.now in let supplementary = d.now.tables.sheets.supplementary.now in
+        Joins main supplementary work.old work.new files.old files.new d.now st.table
+        (unit_here (sheet_in d.now.tables.sheets input) unit) result }
 {
     if lacks_header(d.tables.sheets.of(input), unit) {
         return Ok(st.table);

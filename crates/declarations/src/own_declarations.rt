@@ -59,16 +59,16 @@ pub fn lacks_header(s: &[u8], unit: usize) -> bool
 // and none where it has no header.
 fn number_of(
     work: &mut [u8],
-    d: Places,
-    here: Position,
+    d: &Places,
+    here: &Position,
     file: FileNumber,
     st: DeclaringState,
 ) -> Option<FileIndex>
-    requires declaring_in { DeclaringIn d.tables.sheets.main.now d.tables.sheets.supplementary.now work.old d st }
-    requires unit_known { UnitKnown (sheet_in d.tables.sheets here.at.input) here.at.entry.unit }
-    ensures { let main = d.entry.tables.sheets.main.now in let supplementary = d.entry.tables.sheets.supplementary.now in
-        Numbered main supplementary work.old work.new d.entry st
-        (indices_at main supplementary work.old d.entry st here.at.input here.at.entry.unit here.reached) file result }
+    requires declaring_in { DeclaringIn d.now.tables.sheets.main.now d.now.tables.sheets.supplementary.now work.old d.now st }
+    requires unit_known { UnitKnown (sheet_in d.now.tables.sheets here.now.at.input) here.now.at.entry.unit }
+    ensures { let main = d.now.tables.sheets.main.now in let supplementary = d.now.tables.sheets.supplementary.now in
+        Numbered main supplementary work.old work.new d.now st
+        (indices_at main supplementary work.old d.now st here.now.at.input here.now.at.entry.unit here.now.reached) file result }
 {
     if !here.reached {
         return get_index(work, d.indices, file);
@@ -97,7 +97,7 @@ fn warn_declaration(
     ensures warns { Warns s.now entry.unit entry.place kind number warnings.old warnings.new st.old (answered st.new result) }
     ensures same_trail { st.new.trail ≡ st.old.trail }
 {
-    st.warned = warn_about(s, warnings, entry, kind, number, st.warned)?;
+    st.warned = warn_about(s, warnings, entry, kind.number(), number, st.warned)?;
     Ok(None)
 }
 
@@ -105,16 +105,16 @@ fn warn_declaration(
 pub fn own_declaration(
     work: &mut [u8],
     warnings: &mut [u8],
-    d: Places,
-    here: Position,
+    d: &Places,
+    here: &Position,
     st: &mut DeclaringState,
 ) -> Result<Option<Declaration>, Refusal>
-    requires declaring_in { DeclaringIn d.tables.sheets.main.now d.tables.sheets.supplementary.now work.old d st.old }
-    requires stands { Stands d.tables.sheets.main.now d.tables.sheets.supplementary.now here.at }
-    ensures owns { let main = d.entry.tables.sheets.main.now in let supplementary = d.entry.tables.sheets.supplementary.now in
-        let p = place_at main supplementary here.at in
-        Owns (own_declaration p.unit p.entry (indices_at main supplementary work.old d.entry st.old here.at.input here.at.entry.unit here.reached))
-        main supplementary work.old work.new warnings.old warnings.new d.entry st.old (answered st.new result) }
+    requires declaring_in { DeclaringIn d.now.tables.sheets.main.now d.now.tables.sheets.supplementary.now work.old d.now st.old }
+    requires stands { Stands d.now.tables.sheets.main.now d.now.tables.sheets.supplementary.now here.now.at }
+    ensures owns { let main = d.now.tables.sheets.main.now in let supplementary = d.now.tables.sheets.supplementary.now in
+        let p = place_at main supplementary here.now.at in
+        Owns (own_declaration p.unit p.entry (indices_at main supplementary work.old d.now st.old here.now.at.input here.now.at.entry.unit here.now.reached))
+        main supplementary work.old work.new warnings.old warnings.new d.now st.old (answered st.new result) }
     ensures same_trail { st.new.trail ≡ st.old.trail }
 {
     let s = d.tables.sheets.of(here.at.input);

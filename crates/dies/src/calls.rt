@@ -48,7 +48,7 @@ pub fn call_file(
     if let Some(file) = files::index::get_index(work, indices, FileNumber(number)) {
         return Ok(Warned { value: file, at });
     }
-    let kind = WarningKind::MissingInlineCallFile;
+    let kind = WarningKind::MissingInlineCallFile.number();
     let warned = warn_about(main, warnings, entry, kind, number, at)?;
     Ok(Warned {
         value: none,
@@ -75,7 +75,7 @@ pub fn call_line(
     if let Ok(line) = u32::try_from(number) {
         return Ok(Warned { value: line, at });
     }
-    let kind = WarningKind::InvalidInlineCallLine;
+    let kind = WarningKind::InvalidInlineCallLine.number();
     let warned = warn_about(main, warnings, entry, kind, number, at)?;
     Ok(Warned {
         value: 0,

@@ -135,7 +135,7 @@ impl Details<'_> {
     }
 
     // An inlined entry.
-    pub(crate) fn make_inline_node(
+    pub fn make_inline_node(
         &self,
         work: &mut [u8],
         records: &mut [u8],

@@ -1,5 +1,5 @@
 // Call sites: the open ones while their entries go on, the closed ones until the record's nodes are laid.
-ghost use Rattle.std.specs.Prelude.{◌≡◌, ◌+◌, ◌*◌, ◌^◌, ◌≤◌, ◌<◌, length};
+ghost use Rattle.std.specs.Prelude.{◌≡◌, List, ℕ, ◌+◌, ◌*◌, ◌^◌, ◌≤◌, ◌<◌, length};
 ghost use Rattle.tlv.specs.Constants.{dw_at_call_return_pc};
 ghost use Rattle.tlv.specs.Checked.{Accepted};
 ghost use Rattle.tlv.specs.Refusals.{status_of};
@@ -7,7 +7,7 @@ ghost use Rattle.tlv.specs.Tags.{entry_whole};
 ghost use Rattle.access.specs.Places.{entry_here};
 ghost use Rattle.references.specs.Search.{attribute};
 ghost use Rattle.references.specs.Tables.{EntryKnown};
-ghost use Rattle.dies.specs.Details.{DetailsIn, context_now, main_of, supplementary_of, open_site, closed_site};
+ghost use Rattle.dies.specs.Details.{DetailsIn, context_in, main_of, supplementary_of, open_site, closed_site};
 ghost use Rattle.dies.specs.DetailState.{PutSite, Closed, none_later, Fits, FitsAt, Quiet, collect_site, ranges_later, entries_left, SitesPut};
 ghost use Rattle.dies.specs.Calls.{address_of, address_in};
 
@@ -113,17 +113,12 @@ impl Sites {
 
 impl Details<'_> {
     // A call site: its return address is to lie in the function. The name that its origin refers to is searched here only for a refusal.
-    pub(crate) fn make_call_site(
-        &self,
-        work: &mut [u8],
-        p: usize,
-        walk: &mut Walk,
-    ) -> Result<(), Refusal>
+    pub fn make_call_site(&self, work: &mut [u8], p: usize, walk: &mut Walk) -> Result<(), Refusal>
         requires details_in { DetailsIn (main_of self.now) (supplementary_of self.now) work.old self.now }
         requires entry_known { EntryKnown (main_of self.now) self.now.context.unit p }
         requires fits { FitsAt work.old self.now p walk.old }
-        ensures { Quiet (collect_site (context_now work.old self.now) (entry_here (main_of self.now) p))
-            (main_of self.now) (supplementary_of self.now) self.now
+        ensures { (lists addresses : List ℕ) → Quiet (collect_site (context_in (main_of self.now) (supplementary_of self.now)
+            lists addresses work.old self.now) (entry_here (main_of self.now) p)) (main_of self.now) (supplementary_of self.now) self.now
             (ranges_later (main_of self.now) (p + entry_whole)) (entries_left (main_of self.now) (p + entry_whole))
             work.old walk.old work.new (status_of result) walk.new }
     {
@@ -145,7 +140,7 @@ impl Details<'_> {
     }
 
     // The closed call sites: the name of each is searched again, with the same outcome.
-    pub(crate) fn put_sites(&self, work: &mut [u8], records: &mut [u8], walk: &Walk) -> LaidSites
+    pub fn put_sites(&self, work: &mut [u8], records: &mut [u8], walk: &Walk) -> LaidSites
         requires details_in { DetailsIn (main_of self.now) (supplementary_of self.now) work.old self.now }
         requires fits { Fits (main_of self.now) (supplementary_of self.now) work.old self.now none_later 0 walk.now }
         ensures { SitesPut (main_of self.now) (supplementary_of self.now) self.now walk.now.sites.closed walk.now.at

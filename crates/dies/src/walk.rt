@@ -31,7 +31,7 @@ pub struct Walk {
 
 impl Details<'_> {
     // Closes the nodes and the call sites of entries at this depth or deeper.
-    pub(crate) fn close(&self, work: &mut [u8], walk: &mut Walk, depth: u16)
+    pub fn close(&self, work: &mut [u8], walk: &mut Walk, depth: u16)
         requires details_in { DetailsIn (main_of self.now) (supplementary_of self.now) work.old self.now }
         requires fits { Fits (main_of self.now) (supplementary_of self.now) work.old self.now none_later 0 walk.old }
         ensures { Shut (main_of self.now) (supplementary_of self.now) self.now depth work.old walk.old work.new walk.new }
@@ -72,7 +72,7 @@ impl Details<'_> {
 
     // The entries from place p on that are deeper than the function.
     #[tactic(auto, using(tlv::proofs::FieldLaws::goes_on))]
-    pub(crate) fn collect_entries(
+    pub fn collect_entries(
         &self,
         work: &mut [u8],
         records: &mut [u8],

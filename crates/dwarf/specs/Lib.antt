@@ -5,3 +5,4 @@ pub mod Runs
 pub mod Lent
 pub mod Answers
 pub mod Sizes
+pub mod Part

@@ -4,23 +4,34 @@ ghost use Rattle.tlv.specs.Checked.{Accepted};
 ghost use Rattle.tlv.specs.Model.{program_of};
 ghost use Rattle.access.specs.Places.{unit_here};
 ghost use Rattle.collect.specs.Collects.{UnitIn};
+ghost use Rattle.dwarf.specs.Part.{PartOf};
 
 use access::access::next_before_rows;
+use std::ops::Range;
 use tlv::bytes::Number;
 use tlv::shapes::PART_LENGTH;
 use tlv::tags::{PART_TAG, UNIT_WHOLE};
 
-// The unit's part of a program, from a place on so many bytes, as far as the program goes: all of it where the unit names none.
+// Where the unit's part of any program of `size` bytes stands, from a place on so many bytes, as far as the program goes: all of it where the unit names none.
+pub fn part_range(main: &[u8], place: usize, size: usize) -> Range<usize>
+    requires accepted { Accepted main.now }
+    requires unit_in { UnitIn main.now place }
+    ensures { PartOf main.now place size result }
+{
+    let Some(field) = next_before_rows(main, place + UNIT_WHOLE, PART_TAG) else {
+        return 0..size;
+    };
+    let most = size as u64;
+    let start = u64::read(main, field.start);
+    let end = start.saturating_add(u64::read(main, field.start + PART_LENGTH));
+    start.min(most) as usize..end.min(most) as usize
+}
+
+// The unit's part of a program.
 pub fn program_part<'a>(main: &[u8], place: usize, program: &'a [u8]) -> &'a [u8]
     requires accepted { Accepted main.now }
     requires unit_in { UnitIn main.now place }
     ensures { result.now ≡ program_of (unit_here main.now place) program.now }
 {
-    let Some(field) = next_before_rows(main, place + UNIT_WHOLE, PART_TAG) else {
-        return program;
-    };
-    let most = program.len() as u64;
-    let start = u64::read(main, field.start);
-    let end = start.saturating_add(u64::read(main, field.start + PART_LENGTH));
-    &program[start.min(most) as usize..end.min(most) as usize]
+    &program[part_range(main, place, program.len())]
 }

@@ -53,8 +53,8 @@ fn answer_query(
 {
     let range = AddressRange::read(query, 0);
     let r = l.for_range(work, range, rows::line::sequence_at(query, QUERY_SEQUENCE));
-    let invalid = u8::from(r.invalid);
-    write!(out, "\nrows {invalid}")?;
+    // Whole texts: each piece of a `write!` is a write of its own.
+    out.write_all(if r.invalid { b"\nrows 1" } else { b"\nrows 0" })?;
     write_rows(out, work, r.rows)
 }
 

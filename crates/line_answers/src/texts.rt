@@ -56,8 +56,8 @@ pub fn answer_path(out: &mut impl Write, path: &[u8]) -> io::Result<()> {
     write_name(out, paths::path::directory_of(path))?;
     write!(out, "|")?;
     write_name(out, paths::path::basename_of(path))?;
-    let absolute = u8::from(paths::path::is_absolute_path(path));
-    write!(out, "|{absolute}")
+    let absolute = paths::path::is_absolute_path(path);
+    out.write_all(if absolute { b"|1" } else { b"|0" })
 }
 
 // The length of the first component (2 bytes), the first, the second.

@@ -1,6 +1,8 @@
 // Document 01's listing program: imports unit 0 of unit.main, with unit.sup and unit.line, and prints what the import gives.
 #![tactic(auto)]
 
+ghost use Rattle.std.specs.Prelude.{◌≤◌, IfOk, length};
+
 use buffers::warning::WarningKind;
 use dwarf::import::import_unit;
 use dwarf::lent::Inputs;
@@ -31,7 +33,9 @@ const WORK_SIZE: usize = 57344;
 const TRAY_SIZE: usize = 32768;
 
 // Reads the file of a name, as far as the buffer goes, and lends the bytes that came; a file that can't be opened is empty.
-fn read_file<'a>(rt: &impl Files, name: &str, buffer: &'a mut [u8]) -> io::Result<&'a [u8]> {
+fn read_file<'a>(rt: &impl Files, name: &str, buffer: &'a mut [u8]) -> io::Result<&'a [u8]>
+    ensures { IfOk result (λ came. length came.now ≤ length buffer.old) }
+{
     let n = match fs::open(rt, name) {
         Ok(mut file) => read_full(&mut file, buffer)?,
         Err(_) => 0,

@@ -23,7 +23,7 @@ impl LineProgram<'_> {
     }
 
     // What follows the zero byte of an extended instruction.
-    pub(crate) fn step_extended(self, r: Registers, at: usize) -> Result<Stepped, Refusal>
+    pub fn step_extended(self, r: Registers, at: usize) -> Result<Stepped, Refusal>
         ensures { Turns self.entry.encoding r self.entry.program.now at result
             (read_extended (length self.entry.program.now) (drop at self.entry.program.now)) }
     {

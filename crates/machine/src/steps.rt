@@ -30,12 +30,7 @@ pub enum Stepped {
 
 impl LineProgram<'_> {
     // A special opcode.
-    pub(crate) fn step_special(
-        self,
-        r: Registers,
-        opcode: u8,
-        next: usize,
-    ) -> Result<Stepped, Refusal>
+    pub fn step_special(self, r: Registers, opcode: u8, next: usize) -> Result<Stepped, Refusal>
         requires { self.encoding.opcode_base ≤ opcode }
         ensures { Executes self.entry.encoding r (special (opcode - self.entry.encoding.opcode_base)) next result }
     {
@@ -137,12 +132,7 @@ impl LineProgram<'_> {
 
     // A standard opcode.
     // Stays beside line_program's skip_standard, with the same opcodes: this reads the operands that each opcode has, that passes over what the header counts.
-    pub(crate) fn step_standard(
-        self,
-        r: Registers,
-        opcode: u8,
-        at: usize,
-    ) -> Result<Stepped, Refusal>
+    pub fn step_standard(self, r: Registers, opcode: u8, at: usize) -> Result<Stepped, Refusal>
         requires { (0 < opcode) × (at ≤ length self.program.now) }
         ensures { Turns self.entry.encoding r self.entry.program.now at result
             (read_standard (opcodes_with self.entry.encoding self.entry.lengths.now) opcode (drop at self.entry.program.now)) }

@@ -4,26 +4,44 @@ use mathlib.Core.Bool.{Bool, cond, ◌||◌, or-true}
 use mathlib.Core.Logic.{inl}
 use mathlib.Core.List.{List, [], ◌∷◌, ◌++◌}
 use Prim.Native.Nat.{ℕ, suc, ◌+◌, ◌-◌, ◌≤◌, ◌<◌}
+use native.Mathlib.Nat.{add-zero}
 use native.Mathlib.Omega.{arith}
 use borrow.Author.Tests.{eq-eqb, ne_eqb}
 use lib.Dec.{eqb}
-use lib.Seq.{drop-drop}
-use borrow.Rule.Slice.PartMut.{put_mid}
-use lib.ListN.{length, get_or, set, length-append}
+use lib.ListN.{length, get_or, drop, set, length-set, length-append, drop_of_length-le}
 use Rattle.tlv.proofs.TestLaws.{by_test}
 use Rattle.buffers.specs.Buffer.{overlay}
 use Rattle.buffers.specs.Table.{chunk, Kept}
-use Rattle.buffers.proofs.ChunkLaws.{chunk-length, chunk-byte, chunk-none, chunk-add, chunk-over, overlay-eq}
+use Rattle.buffers.proofs.ChunkLaws.{chunk-length, chunk-byte, chunk-none, chunk-add, chunk-over}
 use Rattle.buffers.proofs.TableLaws.{kept-over, kept_refl, kept-wide, kept_trans}
 use Rattle.line_program.specs.Standard.{slash}
 use Rattle.paths.specs.Paths.{starts_with, ends_with, append_path}
 use Rattle.paths.specs.Join.{Laid}
-use Rattle.paths.proofs.PathCodeLaws.{starts_first}
+use Rattle.paths.proofs.PathCodeLaws.{drop_byte, starts_first}
 use Rattle.paths.proofs.Joining.{append_none, append-first}
 
--- a path that was put in the place of so many bytes
-pub copied : (to : ℕ) (path w new : List ℕ) → new ≡ path → to + length path ≤ length w → put_mid to (length path) w new ≡ overlay to path w
-copied to path w new e h = rw (e, drop-drop (length path) to w) (sym (overlay-eq to path w h))
+-- ---- the copy's loop
+
+pub record Copying (path w₀ w : List ℕ) (to i : ℕ) : Type 0 where
+  pub goes : overlay (to + i) (drop i path) w ≡ overlay to path w₀
+  pub size : length w ≡ length w₀
+
+pub copy_start : (path w : List ℕ) (to : ℕ) → Copying path w w to 0
+copy_start path w to = record { goes = ap (λ (x : ℕ). overlay x path w) (add-zero to); size = refl }
+
+pub copy_step : (path w₀ w : List ℕ) (to i : ℕ) → Copying path w₀ w to i → i < length path → Copying path w₀ (set w (to + i) (get_or path i 0)) to (i + 1)
+copy_step path w₀ w to i C h =
+    let e : to + (i + 1) ≡ to + i + 1 = omega arith in
+    record {
+      goes =
+          ap (λ (x : ℕ). overlay x (drop (i + 1) path) (set w (to + i) (get_or path i 0))) e
+          ∙ ap (λ (l : List ℕ). overlay (to + i) l w) (sym (drop_byte path i (get_or path i 0) h refl))
+          ∙ C.goes;
+      size = length-set w (to + i) (get_or path i 0) ∙ C.size;
+    }
+
+pub copy_done : {path w₀ w : List ℕ} {to i : ℕ} → Copying path w₀ w to i → length path ≤ i → w ≡ overlay to path w₀
+copy_done {path} {w₀} {w} {to} {i} C h = sym (ap (λ (l : List ℕ). overlay (to + i) l w) (drop_of_length-le path {i = i} h)) ∙ C.goes
 
 -- ---- append_path
 

@@ -39,18 +39,18 @@ take_last s i h g =
     ap (λ (x : ℕ). take x s) z ∙ take-suc s (i - 1) 0 (omega arith)
 
 module _ (s : List ℕ) where
-  base-start : (w : Bool) → w ≡ is_windows s → base_start s ≡ after_last (splits_at w) (take (length s) s)
+  pub base-start : (w : Bool) → w ≡ is_windows s → base_start s ≡ after_last (splits_at w) (take (length s) s)
   unfolding base_start
   base-start w e = λ i. after_last (splits_at (sym e i)) (sym (take-length s) i)
 
   module _ (splits : ℕ → Bool) (i v : ℕ) (e : v ≡ after_last splits (take i s)) where
     module _ (h : 0 < i) (g : i ≤ length s) (r : Bool) (q : r ≡ splits (get_or s (i - 1) 0)) where
-      base-found : r ≡ true → i ≡ v
+      pub base-found : r ≡ true → i ≡ v
       base-found k =
           let l : length (take (i - 1) s) + 1 ≡ i = simp length-take (omega arith) in
           sym (e ∙ ap (after_last splits) (take_last s i h g) ∙ last-here splits (take (i - 1) s) (get_or s (i - 1) 0) (sym q ∙ k) ∙ l)
 
-      base-pass : r ≡ false → v ≡ after_last splits (take (i - 1) s)
+      pub base-pass : r ≡ false → v ≡ after_last splits (take (i - 1) s)
       base-pass k = e ∙ ap (after_last splits) (take_last s i h g) ∙ last-other splits (take (i - 1) s) (get_or s (i - 1) 0) (sym q ∙ k)
 
 -- none of the last k bytes splits: what counts stands before them

@@ -138,11 +138,14 @@ fn root_length(path: &[u8]) -> usize
 }
 
 // Copies a path to a place of the work slice.
+// Stays a loop: `copy_from_slice` calls C's `memmove`, a name that the library for C asks for nowhere.
 fn copy_in(work: &mut [u8], to: usize, path: &[u8])
     requires { to + length path.now ≤ length work.old }
     ensures { work.new ≡ overlay to path.now work.old }
 {
-    work[to..to + path.len()].copy_from_slice(path);
+    for i in 0..path.len() {
+        work[to + i] = path[i];
+    }
 }
 
 // Puts a component below the path of n bytes that stands at a place of the work slice, and returns its length then.

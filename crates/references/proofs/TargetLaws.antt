@@ -13,10 +13,8 @@ use Rattle.tlv.specs.Fields.{fields}
 use Rattle.tlv.specs.Checked.{Accepts}
 use Rattle.tlv.specs.Model.{units}
 use Rattle.tlv.proofs.TestLaws.{by_test, and_left}
-use Rattle.tlv.proofs.AnswerLaws.{ok-some, err-none}
 use Rattle.buffers.specs.Table.{records}
-use Rattle.std.specs.Prelude.{Some, None, Ok, Err, ok_or}
-use Rattle.tlv.specs.declared.refusal.Refusal.{Refusal}
+use Rattle.std.specs.Prelude.{Some, None, Ok, Err}
 use Rattle.std.specs.declared.option.Option.{Option as Given}
 use Rattle.access.specs.declared.index.EntryPlace.{EntryPlace}
 use Rattle.access.specs.Places.{unit_here, entry_here, unit_places, IndexedEntry, entry_index, UnitOf}
@@ -31,7 +29,7 @@ use Rattle.access.proofs.ContainingLaws.{containing-places, units-containing}
 use Rattle.access.proofs.UnitsOrder.{entry-containing}
 use Rattle.references.specs.declared.tables.Index.{Index}
 use Rattle.references.specs.Search.{or_no_entry, entry_at, unit_containing}
-use Rattle.references.specs.Tables.{IndexIn, EntryKnown, Leads, LeadsIn}
+use Rattle.references.specs.Tables.{IndexIn, EntryKnown, LeadsTo, LeadsIn}
 
 -- ---- the first that passes a test
 
@@ -90,11 +88,11 @@ module _ {s w : List ℕ} {x : Index} (I : IndexIn s w x) (o : ℕ) where
     place_is : place_of r ≡ containing o (map (indexed_unit s) (unit_places 0 (fields s)))
     place_is = e ∙ ap (containing o) I.units
 
-    pub leads_outside : r ≡ None → Leads s o (Ok None)
+    pub leads_outside : r ≡ None → LeadsTo s o (Ok None)
     leads_outside is = record { is = unit-none s o (sym (rw is at place_is)) }
 
     -- no entry of the unit starts there
-    leads_no-entry : (q : ℕ) → r ≡ Some q → found_of o None ≡ lookup o (records indexed_of 16 w x.entries.base x.entries.count) → Leads s o (Err Refusal.NoEntry)
+    pub leads_no-entry : (q : ℕ) → r ≡ Some q → found_of o None ≡ lookup o (records indexed_of 16 w x.entries.base x.entries.count) → LeadsTo s o (Err (record { unit = q }))
     unfolding entry_at entry_in
     leads_no-entry q is answer =
         let found = sym (rw is at place_is) in
@@ -103,20 +101,10 @@ module _ {s w : List ℕ} {x : Index} (I : IndexIn s w x) (o : ℕ) where
         let gone = answer-missing s w x.entries.base x.entries.count o I.entries answer in
         record {
           is = (
-            refl,
-            record {
-              unit = q;
-              containing = unit-is s o q found;
-              missing = ap or_no_entry (index-finds s I.number q (o - (unit_here s q).offset) I.accepted (unit-listed s o q found)) ∙ rw (sum, gone);
-            },
+            unit-is s o q found,
+            ap or_no_entry (index-finds s I.number q (o - (unit_here s q).offset) I.accepted (unit-listed s o q found)) ∙ rw (sum, gone),
           );
         }
-
-    pub leads-missing : (q : ℕ) → r ≡ Some q → (f : Given EntryPlace) → found_of o f ≡ lookup o (records indexed_of 16 w x.entries.base x.entries.count)
-        → {e : Refusal} → Err e ≡ ok_or f Refusal.NoEntry → Leads s o (Err e)
-    leads-missing q is f answer made =
-        let none = err-none f made in
-        rw none.1 (leads_no-entry q is (rw none.0 at answer))
 
   -- no entry of the unit at q starts at its offset own
   module _ (q own : ℕ) (listed : UnitOf s q) (sum : o ≡ (unit_here s q).offset + own) where
@@ -133,7 +121,7 @@ module _ {s w : List ℕ} {x : Index} (I : IndexIn s w x) (o : ℕ) where
     found : lookup o (entry_index 0 0 0 (fields s)) ≡ some (record { offset = o; place = f.place; unit = f.unit })
     found = answer_at s w x.entries.base x.entries.count o I.entries f answer
 
-    pub leads_at : Leads s o (Ok (Some f))
+    pub leads_at : LeadsTo s o (Ok (Some f))
     unfolding entry_at
     leads_at =
         let e : IndexedEntry = record { offset = o; place = f.place; unit = f.unit } in
@@ -159,11 +147,6 @@ module _ {s w : List ℕ} {x : Index} (I : IndexIn s w x) (o : ℕ) where
       leads_in_at same = record {
         is = (own-entry q own listed sum ∙ rw (found, eq-eqb f.unit q same), rw same at (entry_known s o (record { offset = o; place = f.place; unit = f.unit }) found));
       }
-
-  -- as `ok_or` has it
-  pub leads-found : (f : Given EntryPlace) {v : EntryPlace} → found_of o f ≡ lookup o (records indexed_of 16 w x.entries.base x.entries.count) → Ok v ≡ ok_or f Refusal.NoEntry
-      → Leads s o (Ok (Some v))
-  leads-found f {v} answer made = leads_at v (rw (ok-some f _ made) at answer)
 
 -- ---- the entry of a unit that the index knows
 

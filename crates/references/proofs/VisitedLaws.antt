@@ -53,28 +53,25 @@ unfolding keys_at
 keys_step w base zero h = absurd (omega arith)
 keys_step w base (suc j) h = let z : suc j - 1 ≡ j = omega arith in rw z
 
--- of a or b or c, in another order
-or_swap : (a b c : Bool) → (a || (b || c)) ≡ (b || (a || c))
-or_swap true true c = refl
-or_swap true false c = refl
-or_swap false b c = refl
-
 or_else : (a b : Bool) → (a || b) ≡ cond a true b
 or_else true b = refl
 or_else false b = refl
 
--- the last number of a range is looked at first
-any_more : (f : ℕ → Bool) (a n : ℕ) → list_any f (range_with_len a (suc n)) ≡ (f (a + n) || list_any f (range_with_len a n))
-any_more f a zero = let z : a + 0 ≡ a = omega arith in rw z
-any_more f a (suc n) =
-    let z : a + suc n ≡ a + 1 + n = omega arith in
-    ap (λ b. f a || b) (any_more f (a + 1) n) ∙ rw z (or_swap (f a) (f (a + 1 + n)) (list_any f (range_with_len (a + 1) n)))
+-- a look at each by its number, from the last on
+module _ (w : List ℕ) (base : ℕ) (k : DieKey) where
+  abbrev is : ℕ → Bool
+  is i = same_key k (key_of (chunk w (base + i * 13) 9))
 
--- a look at each by its number
-pub scanned_is : (w : List ℕ) (base n : ℕ) (k : DieKey) → list_any (λ i. same_key k (key_of (chunk w (base + i * 13) 9))) (range_with_len 0 n) ≡ exists (same_key k) (keys_at w base n)
-unfolding keys_at exists
-scanned_is w base zero k = refl
-scanned_is w base (suc n) k =
-    let z : 0 + n ≡ n = omega arith in
-    any_more (λ i. same_key k (key_of (chunk w (base + i * 13) 9))) 0 n
-    ∙ rw (z, scanned_is w base n k) (or_else (same_key k (key_of (chunk w (base + n * 13) 9))) (exists (same_key k) (keys_at w base n)))
+  scanned-from : (a n : ℕ) → list_any (λ i. is (a + n - 1 - i)) (range_with_len a n) ≡ exists (same_key k) (keys_at w base n)
+  unfolding keys_at exists
+  scanned-from a zero = refl
+  scanned-from a (suc n) =
+      let here : a + suc n - 1 - a ≡ n = omega arith in
+      let z : a + suc n ≡ a + 1 + n = omega arith in
+      ap (λ (m : ℕ). is m || list_any (λ i. is (a + suc n - 1 - i)) (range_with_len (a + 1) n)) here
+      ∙ ap (λ (m : ℕ). is n || list_any (λ i. is (m - 1 - i)) (range_with_len (a + 1) n)) z
+      ∙ ap (λ (b : Bool). is n || b) (scanned-from (a + 1) n)
+      ∙ or_else (is n) (exists (same_key k) (keys_at w base n))
+
+  pub scanned_is : (n : ℕ) → list_any (λ i. is (n - 1 - i)) (range_with_len 0 n) ≡ exists (same_key k) (keys_at w base n)
+  scanned_is n = let z : 0 + n ≡ n = omega arith in ap (λ (m : ℕ). list_any (λ i. is (m - 1 - i)) (range_with_len 0 n)) (sym z) ∙ scanned-from 0 n

@@ -15,6 +15,7 @@ use Rattle.access.specs.Places.{IndexedEntry, entry_index, entry_here, unit_here
 use Rattle.access.specs.Index.{indexed_of, entry_record}
 use Rattle.access.specs.Units.{indexed_unit, unit_of24, unit_record}
 use Rattle.references.specs.declared.tables.Index.{Index}
+use Rattle.references.specs.declared.tables.NoEntry.{NoEntry}
 use Rattle.access.specs.declared.index.EntryPlace.{EntryPlace}
 use Rattle.references.specs.declared.attributes.Reference.{Reference}
 use Rattle.references.specs.Search.{attribute, if_empty, name_from, own_name, name_attributes, entry_at, unit_containing}
@@ -38,6 +39,21 @@ pub record EntryKnown (s : List ℕ) (q p : ℕ) : Type 0 where
 
 -- ---- where an offset of the section leads
 
+-- the entry, and its unit, which has the offset
+abbrev pub EntryAt : List ℕ → ℕ → EntryPlace → Type 0
+EntryAt s o e =
+    (unit_containing (units s) o ≡ some (unit_here s e.unit)) × (entry_at (unit_here s e.unit) (o - (unit_here s e.unit).offset) ≡ done (entry_here s e.place))
+    × EntryKnown s e.unit e.place
+
+-- outside all units, to an entry, or into the unit at a place, where no entry starts
+abbrev pub TargetTo : List ℕ → ℕ → Result (Given EntryPlace) NoEntry → Type 0
+TargetTo s o (Ok None) = unit_containing (units s) o ≡ none
+TargetTo s o (Err e) = (unit_containing (units s) o ≡ some (unit_here s e.unit)) × (entry_at (unit_here s e.unit) (o - (unit_here s e.unit).offset) ≡ refused 13)
+TargetTo s o (Ok (Some e)) = EntryAt s o e
+
+pub record LeadsTo (s : List ℕ) (o : ℕ) (r : Result (Given EntryPlace) NoEntry) : Type 0 where
+  pub is : TargetTo s o r
+
 -- in a unit where no entry starts
 pub record NoEntryAt (s : List ℕ) (o : ℕ) : Type 0 where
   pub unit : ℕ
@@ -47,9 +63,7 @@ pub record NoEntryAt (s : List ℕ) (o : ℕ) : Type 0 where
 abbrev pub TargetIs : List ℕ → ℕ → Result (Given EntryPlace) Refusal → Type 0
 TargetIs s o (Ok None) = unit_containing (units s) o ≡ none
 TargetIs s o (Err e) = (e ≡ Refusal.NoEntry) × NoEntryAt s o
-TargetIs s o (Ok (Some e)) =
-    (unit_containing (units s) o ≡ some (unit_here s e.unit)) × (entry_at (unit_here s e.unit) (o - (unit_here s e.unit).offset) ≡ done (entry_here s e.place))
-    × EntryKnown s e.unit e.place
+TargetIs s o (Ok (Some e)) = EntryAt s o e
 
 pub record Leads (s : List ℕ) (o : ℕ) (r : Result (Given EntryPlace) Refusal) : Type 0 where
   pub is : TargetIs s o r

@@ -35,10 +35,11 @@ const HASH_FACTOR: u64 = 2654435761;
 const HASH_DROPPED: u64 = 65536;
 
 // A target that a search follows: the source that it is remembered under, and its offset in the section.
+// The offset stands first, here and in what has a target or an entry: a gap between two fields is copied with them, byte by byte.
 #[derive(Clone, Copy, Debug, PartialEq, Eq)]
 pub struct DieKey {
-    pub source: DebugSource,
     pub offset: u64,
+    pub source: DebugSource,
 }
 
 impl DieKey {
@@ -71,9 +72,9 @@ fn is_many(n: usize) -> bool
 }
 
 // How many chains there are.
-fn chain_count(x: Tables) -> usize
-    requires { keys_from x < 18446744073709551616 }
-    ensures { result ≡ chain_count x.entry }
+fn chain_count(x: &Tables) -> usize
+    requires { keys_from x.now < 18446744073709551616 }
+    ensures { result ≡ chain_count x.now }
 {
     x.main.entries.count + x.supplementary.entries.count + 1
 }
@@ -87,14 +88,14 @@ fn chain_of(n: usize, offset: u64) -> usize
 }
 
 // Where the targets stand, behind the heads of the chains.
-fn keys_from(x: Tables) -> usize
-    requires { keys_from x < 18446744073709551616 }
-    ensures { result ≡ keys_from x.entry }
+fn keys_from(x: &Tables) -> usize
+    requires { keys_from x.now < 18446744073709551616 }
+    ensures { result ≡ keys_from x.now }
 {
     x.keys + chain_count(x) * CHAIN_HEAD
 }
 
-// Whether a target is among some, by a look at each.
+// Whether a target is among some, by a look at each, the newest first: a search that turns back meets the target that it has just followed.
 // Stays apart from rows' first_covering: this asks by `any` whether one is there, that by `find` which is the first.
 fn is_scanned(work: &[u8], keys: Stored<DieKey>, key: DieKey) -> bool
     requires { keys.base + keys.count * key_record ≤ length work.now }
@@ -102,16 +103,16 @@ fn is_scanned(work: &[u8], keys: Stored<DieKey>, key: DieKey) -> bool
 {
     (0..keys.count).any(
         |i|
-            requires { keys.base + (i + 1) * key_record ≤ length work.now }
-        { is_key(work, keys.base + i * KEY_RECORD, key) },
+            requires { (i < keys.count) × (keys.base + keys.count * key_record ≤ length work.now) }
+        { is_key(work, keys.base + (keys.count - 1 - i) * KEY_RECORD, key) },
     )
 }
 
 // Whether a target is among the n that were followed: a chain leads from newer to older ones.
 // Stays beside files' find_file, another table of chains: one walk would take where chains and links stand, a record's size, and a test.
-pub fn is_visited(work: &[u8], x: Tables, n: usize, key: DieKey) -> bool
-    requires { TrailIn work.now x n 0 }
-    ensures { result ≡ exists (same_key (key_in key.source key.offset)) (keys_at work.now (keys_from x.entry) n) }
+pub fn is_visited(work: &[u8], x: &Tables, n: usize, key: DieKey) -> bool
+    requires { TrailIn work.now x.now n 0 }
+    ensures { result ≡ exists (same_key (key_in key.source key.offset)) (keys_at work.now (keys_from x.now) n) }
 {
     if !is_many(n) {
         return is_scanned(work, Stored::new(keys_from(x), n), key);
@@ -130,11 +131,11 @@ pub fn is_visited(work: &[u8], x: Tables, n: usize, key: DieKey) -> bool
 }
 
 // Makes target i the first of its chain, where the older ones are in chains.
-fn chain_key(work: &mut [u8], x: Tables, i: usize)
-    requires keys_fit { keys_from x + i * key_record + key_record ≤ length work.old }
+fn chain_key(work: &mut [u8], x: &Tables, i: usize)
+    requires keys_fit { keys_from x.now + i * key_record + key_record ≤ length work.old }
     requires linkable { i + 1 < 4294967296 }
-    requires chained { Chained work.old x i }
-    ensures { Chains work.old work.new x.entry (i + 1) }
+    requires chained { Chained work.old x.now i }
+    ensures { Chains work.old work.new x.now (i + 1) }
 {
     let chains = chain_count(x);
     let p = keys_from(x) + i * KEY_RECORD;
@@ -146,10 +147,10 @@ fn chain_key(work: &mut [u8], x: Tables, i: usize)
 }
 
 // Makes chains of the first n targets.
-fn chain_keys(work: &mut [u8], x: Tables, n: usize)
-    requires keys_fit { keys_from x + n * key_record ≤ length work.old }
+fn chain_keys(work: &mut [u8], x: &Tables, n: usize)
+    requires keys_fit { keys_from x.now + n * key_record ≤ length work.old }
     requires linkable { n < 4294967296 }
-    ensures { Chains work.old work.new x.entry n }
+    ensures { Chains work.old work.new x.now n }
 {
     let base = keys_from(x);
     fill_zero(work, x.keys, base);
@@ -159,9 +160,9 @@ fn chain_keys(work: &mut [u8], x: Tables, n: usize)
 }
 
 // Writes a target behind n others.
-pub fn push_key(work: &mut [u8], x: Tables, n: usize, key: DieKey)
-    requires { TrailIn work.old x n 1 }
-    ensures { Pushed work.old work.new x.entry n (key_in key.source key.offset) }
+pub fn push_key(work: &mut [u8], x: &Tables, n: usize, key: DieKey)
+    requires { TrailIn work.old x.now n 1 }
+    ensures { Pushed work.old work.new x.now n (key_in key.source key.offset) }
 {
     let p = keys_from(x) + n * KEY_RECORD;
     (key.source as u8).write(work, p);

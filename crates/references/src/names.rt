@@ -33,19 +33,20 @@ pub fn found_name<'a>(name: &'a [u8]) -> Option<&'a [u8]>
 
 // The name of an entry: its own, or the first that its references lead to; no bytes are none.
 // Stays two calls, the second the answer: a loop over both names has the same call, test and return, and a line more for no name.
+// The tables, and where the search stands, are lent, here and below: handed by value they were copied at each of up to 64 levels.
 // Stays with work, trail and tables apart, as the two below: is_visited, way_of and push_key take the trail's count alone, and work to read or to write.
 #[cycle(referred_name_resolve_absolute_name_resolve_name_inner)]
 pub fn resolve_name_inner<'a>(
     work: &mut [u8],
     trail: &mut Trail,
-    x: Tables<'a>,
-    at: EntryAt,
+    x: &Tables<'a>,
+    at: &EntryAt,
 ) -> Result<&'a [u8], Refusal>
-    requires search_in { SearchIn x.sheets.main.now x.sheets.supplementary.now work.old x trail.old.count }
-    requires stands { Stands x.sheets.main.now x.sheets.supplementary.now at }
-    ensures { let main = x.entry.sheets.main.now in let supplementary = x.entry.sheets.supplementary.now in
-        Gives (counted_name at.left (dwarf_of main supplementary) (place_at main supplementary at)) main supplementary
-        x.entry work.old trail.old.count trail.old.reads work.new trail.new.count trail.new.reads
+    requires search_in { SearchIn x.now.sheets.main.now x.now.sheets.supplementary.now work.old x.now trail.old.count }
+    requires stands { Stands x.now.sheets.main.now x.now.sheets.supplementary.now at.now }
+    ensures { let main = x.now.sheets.main.now in let supplementary = x.now.sheets.supplementary.now in
+        Gives (counted_name at.now.left (dwarf_of main supplementary) (place_at main supplementary at.now)) main supplementary
+        x.now work.old trail.old.count trail.old.reads work.new trail.new.count trail.new.reads
         (status_of result) (bytes_of result) }
 {
     if at.left == 0 {
@@ -63,19 +64,21 @@ pub fn resolve_name_inner<'a>(
 }
 
 // The name that the attribute of a name of an entry leads to.
+// Laid into resolve_name_inner, whose frame then serves both: a call of its own doubled the time of entries without a name, and the stack of a ring of them.
+#[inline(always)]
 #[cycle(referred_name_resolve_absolute_name_resolve_name_inner)]
 pub fn referred_name<'a>(
     work: &mut [u8],
     trail: &mut Trail,
-    x: Tables<'a>,
-    at: EntryAt,
+    x: &Tables<'a>,
+    at: &EntryAt,
     name: u16,
 ) -> Result<&'a [u8], Refusal>
-    requires search_in { SearchIn x.sheets.main.now x.sheets.supplementary.now work.old x trail.old.count }
-    requires stands { Stands x.sheets.main.now x.sheets.supplementary.now at }
-    ensures { let main = x.entry.sheets.main.now in let supplementary = x.entry.sheets.supplementary.now in
-        Gives (referred_name (at.left - 1) main supplementary at name) main supplementary
-        x.entry work.old trail.old.count trail.old.reads work.new trail.new.count trail.new.reads
+    requires search_in { SearchIn x.now.sheets.main.now x.now.sheets.supplementary.now work.old x.now trail.old.count }
+    requires stands { Stands x.now.sheets.main.now x.now.sheets.supplementary.now at.now }
+    ensures { let main = x.now.sheets.main.now in let supplementary = x.now.sheets.supplementary.now in
+        Gives (referred_name (at.now.left - 1) main supplementary at.now name) main supplementary
+        x.now work.old trail.old.count trail.old.reads work.new trail.new.count trail.new.reads
         (status_of result) (bytes_of result) }
 {
     match way_of(work, x, trail.count, at, name)? {
@@ -83,9 +86,9 @@ pub fn referred_name<'a>(
         Some(Way::Entry(next, key)) => {
             push_key(work, x, trail.count, key);
             *trail = trail.with_entry();
-            resolve_name_inner(work, trail, x, next)
+            resolve_name_inner(work, trail, x, &next)
         }
-        Some(Way::Offset(next)) => resolve_absolute_name(work, trail, x, next),
+        Some(Way::Offset(next)) => resolve_absolute_name(work, trail, x, &next),
     }
 }
 
@@ -94,15 +97,15 @@ pub fn referred_name<'a>(
 pub fn resolve_absolute_name<'a>(
     work: &mut [u8],
     trail: &mut Trail,
-    x: Tables<'a>,
-    at: OffsetAt,
+    x: &Tables<'a>,
+    at: &OffsetAt,
 ) -> Result<&'a [u8], Refusal>
-    requires search_in { SearchIn x.sheets.main.now x.sheets.supplementary.now work.old x trail.old.count }
-    requires aims { Aims x.sheets.main.now x.sheets.supplementary.now at }
-    ensures { let main = x.entry.sheets.main.now in let supplementary = x.entry.sheets.supplementary.now in
-        Gives (resolve_absolute_name at.left (dwarf_of main supplementary) (search_source at.input)
-        (search_source at.key.source) at.key.offset) main supplementary
-        x.entry work.old trail.old.count trail.old.reads work.new trail.new.count trail.new.reads
+    requires search_in { SearchIn x.now.sheets.main.now x.now.sheets.supplementary.now work.old x.now trail.old.count }
+    requires aims { Aims x.now.sheets.main.now x.now.sheets.supplementary.now at.now }
+    ensures { let main = x.now.sheets.main.now in let supplementary = x.now.sheets.supplementary.now in
+        Gives (resolve_absolute_name at.now.left (dwarf_of main supplementary) (search_source at.now.input)
+        (search_source at.now.key.source) at.now.key.offset) main supplementary
+        x.now work.old trail.old.count trail.old.reads work.new trail.new.count trail.new.reads
         (status_of result) (bytes_of result) }
 {
     if is_visited(work, x, trail.count, at.key) {
@@ -117,7 +120,8 @@ pub fn resolve_absolute_name<'a>(
         return Ok(&x.sheets.main[..0]);
     };
     *trail = trail.with_entry();
-    resolve_name_inner(work, trail, x, at.to_entry(entry))
+    let next = at.to_entry(entry);
+    resolve_name_inner(work, trail, x, &next)
 }
 
 // An entry of the main sheet, where a search starts.
@@ -150,7 +154,7 @@ pub fn resolve_name_counted<'a>(
     ensures reads_within { ReadsWithin (dwarf_of x.entry.sheets.main.now x.entry.sheets.supplementary.now) result.reads }
 {
     let mut trail = Trail::start();
-    let answer = resolve_name_inner(work, &mut trail, x, start_at(entry));
+    let answer = resolve_name_inner(work, &mut trail, &x, &start_at(entry));
     Counted {
         answer,
         reads: trail.reads,

@@ -32,7 +32,7 @@ pub fn resolve_reference_name_counted<'a>(
     ensures reads_within { ReadsWithin (dwarf_of x.entry.sheets.main.now x.entry.sheets.supplementary.now) result.reads }
 {
     let mut trail = Trail::start();
-    let answer = referred_name(work, &mut trail, x, start_at(entry), name);
+    let answer = referred_name(work, &mut trail, &x, &start_at(entry), name);
     Counted {
         answer,
         reads: trail.reads,

@@ -3,7 +3,7 @@ ghost use Rattle.std.specs.Prelude.{◌≡◌, ◌+◌};
 ghost use Rattle.tlv.specs.Lists.{Any};
 ghost use Rattle.tlv.specs.Fields.{fields};
 ghost use Rattle.access.specs.Places.{unit_here, unit_places};
-ghost use Rattle.references.specs.Tables.{IndexIn, Leads, LeadsIn};
+ghost use Rattle.references.specs.Tables.{IndexIn, Leads, LeadsTo, LeadsIn};
 ghost use Rattle.references.specs.Names.{index_in};
 
 use access::index::{EntryPlace, find_entry};
@@ -20,6 +20,31 @@ pub struct Index {
     pub entries: Stored<EntryPlace>,
 }
 
+// No entry starts at an offset, though a unit has it: the unit's place.
+#[derive(Clone, Copy, Debug)]
+pub struct NoEntry {
+    pub unit: usize,
+}
+
+// Where an offset of the section leads: outside all units, to an entry, or into a unit where no entry starts.
+pub fn target_at(
+    s: &[u8],
+    work: &[u8],
+    x: Index,
+    target: u64,
+) -> Result<Option<EntryPlace>, NoEntry>
+    requires { IndexIn s.now work.now x }
+    ensures { LeadsTo s.now target result }
+{
+    let Some(unit) = unit_containing_offset(work, x.units, target) else {
+        return Ok(None);
+    };
+    let Some(entry) = find_entry(work, x.entries, target) else {
+        return Err(NoEntry { unit });
+    };
+    Ok(Some(entry))
+}
+
 impl Index {
     // The entry at an offset of the section: none outside all units, a refusal in a unit where no entry starts.
     pub fn target_at(
@@ -31,11 +56,7 @@ impl Index {
         requires { IndexIn s.now work.now self }
         ensures { Leads s.now target result }
     {
-        let Some(_) = unit_containing_offset(work, self.units, target) else {
-            return Ok(None);
-        };
-        let entry = find_entry(work, self.entries, target).ok_or(Refusal::NoEntry)?;
-        Ok(Some(entry))
+        target_at(s, work, self, target).map_err(|_| Refusal::NoEntry)
     }
 
     // The place of the entry at an offset of the unit at a place, which is `target` in the section.

@@ -1,13 +1,11 @@
 // Warnings about an entry.
 ghost use Rattle.tlv.specs.Checked.{Accepted};
-ghost use Rattle.buffers.specs.WarningKinds.{number_of};
 ghost use Rattle.references.specs.Tables.{EntryKnown};
 ghost use Rattle.references.specs.Warnings.{AboutWarned};
 
 use crate::ways::absolute_entry_offset;
 use access::index::EntryPlace;
 use buffers::output::put_warning;
-use buffers::warning::WarningKind;
 use tlv::bytes::Number;
 use tlv::refusal::Refusal;
 use tlv::tags::ENTRY_OFFSET;
@@ -18,13 +16,13 @@ pub fn warn_about(
     s: &[u8],
     warnings: &mut [u8],
     entry: EntryPlace,
-    kind: WarningKind,
+    kind: u8,
     number: u64,
     at: usize,
 ) -> Result<usize, Refusal>
     requires accepted { Accepted s.now }
     requires entry_known { EntryKnown s.now entry.unit entry.place }
-    ensures { AboutWarned s.now entry.unit entry.place (number_of kind) number at warnings.old warnings.new result }
+    ensures { AboutWarned s.now entry.unit entry.place kind number at warnings.old warnings.new result }
 {
     let offset = u64::read(s, entry.place + ENTRY_OFFSET);
     let target = absolute_entry_offset(s, entry.unit, offset)?;

@@ -23,17 +23,17 @@ use tlv::tags::UNIT_OFFSET;
 // no `..self` goes from the one to the other.
 #[derive(Clone, Copy, Debug)]
 pub struct EntryAt {
+    pub entry: EntryPlace,
     pub input: DebugSource,
     pub source: DebugSource,
-    pub entry: EntryPlace,
     pub left: u8,
 }
 
 // A target that a search is to follow in a sheet, and how many entries are left.
 #[derive(Clone, Copy, Debug)]
 pub struct OffsetAt {
-    pub input: DebugSource,
     pub key: DieKey,
+    pub input: DebugSource,
     pub left: u8,
 }
 
@@ -73,17 +73,17 @@ pub fn absolute_entry_offset(s: &[u8], unit: usize, offset: u64) -> Result<u64, 
 // Stays with work, tables and a count apart, as way_of and keys' is_visited: push_key writes the slice and takes the other two.
 fn unit_way(
     work: &[u8],
-    x: Tables,
+    x: &Tables,
     n: usize,
-    at: EntryAt,
+    at: &EntryAt,
     offset: u64,
 ) -> Result<Option<Way>, Refusal>
-    requires search_in { SearchIn x.sheets.main.now x.sheets.supplementary.now work.now x n }
-    requires stands { Stands x.sheets.main.now x.sheets.supplementary.now at }
-    requires possible_key { PossibleKey x.sheets.main.now x.sheets.supplementary.now (key_in at.source
-        ((unit_here (source_in x.sheets.main.now x.sheets.supplementary.now at.input) at.entry.unit).offset + offset)) }
-    ensures { let main = x.entry.sheets.main.now in let supplementary = x.entry.sheets.supplementary.now in
-        Ways (follow_unit_from main supplementary at offset) main supplementary work.now x.entry n at.left result }
+    requires search_in { SearchIn x.now.sheets.main.now x.now.sheets.supplementary.now work.now x.now n }
+    requires stands { Stands x.now.sheets.main.now x.now.sheets.supplementary.now at.now }
+    requires possible_key { PossibleKey x.now.sheets.main.now x.now.sheets.supplementary.now (key_in at.now.source
+        ((unit_here (source_in x.now.sheets.main.now x.now.sheets.supplementary.now at.now.input) at.now.entry.unit).offset + offset)) }
+    ensures { let main = x.now.sheets.main.now in let supplementary = x.now.sheets.supplementary.now in
+        Ways (follow_unit_from main supplementary at.now offset) main supplementary work.now x.now n at.now.left result }
 {
     let unit = at.entry.unit;
     let s = x.sheets.of(at.input);
@@ -102,7 +102,7 @@ fn unit_way(
     let next = EntryAt {
         entry: EntryPlace { place, unit },
         left: at.left.saturating_sub(1),
-        ..at
+        ..*at
     };
     Ok(Some(Way::Entry(next, key)))
 }
@@ -110,15 +110,15 @@ fn unit_way(
 // How a search goes on from the attribute of a name of an entry; none where it is no reference, or leads nowhere.
 pub fn way_of(
     work: &[u8],
-    x: Tables,
+    x: &Tables,
     n: usize,
-    at: EntryAt,
+    at: &EntryAt,
     name: u16,
 ) -> Result<Option<Way>, Refusal>
-    requires search_in { SearchIn x.sheets.main.now x.sheets.supplementary.now work.now x n }
-    requires stands { Stands x.sheets.main.now x.sheets.supplementary.now at }
-    ensures { let main = x.entry.sheets.main.now in let supplementary = x.entry.sheets.supplementary.now in
-        Ways (follow_from main supplementary at name) main supplementary work.now x.entry n at.left result }
+    requires search_in { SearchIn x.now.sheets.main.now x.now.sheets.supplementary.now work.now x.now n }
+    requires stands { Stands x.now.sheets.main.now x.now.sheets.supplementary.now at.now }
+    ensures { let main = x.now.sheets.main.now in let supplementary = x.now.sheets.supplementary.now in
+        Ways (follow_from main supplementary at.now name) main supplementary work.now x.now n at.now.left result }
 {
     let here = at.input;
     let left = at.left.saturating_sub(1);

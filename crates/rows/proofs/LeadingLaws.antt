@@ -83,10 +83,10 @@ module _ (w : List ℕ) (base n a : ℕ) where
 
     -- a turn of the search: row i has the address v
     module _ (v : ℕ) (is : v ≡ (line_at w (base + i * line_size)).entry.address) where
-      go_up : Sorted 0 (lines_of w base n) → v < a → i + 1 ≤ leading a (lines_of w base n)
+      pub go_up : Sorted 0 (lines_of w base n) → v < a → i + 1 ≤ leading a (lines_of w base n)
       go_up s l = omega (arith, above a (line_of []) 0 (lines_of w base n) i s in_table (rw (address_is, ← is) l))
 
-      go_down : a ≤ v → leading a (lines_of w base n) ≤ i
+      pub go_down : a ≤ v → leading a (lines_of w base n) ≤ i
       go_down l = not-above a (line_of []) (lines_of w base n) i in_table (rw (address_is, ← is) l)
 
     -- what the place of a row says of its address

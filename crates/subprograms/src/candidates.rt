@@ -84,7 +84,7 @@ impl ImportContext<'_> {
         state.warned = put_warning(
             outputs.warnings,
             state.warned,
-            WarningKind::RejectedRange,
+            WarningKind::RejectedRange.number(),
             range.start,
             range.end,
         );

@@ -100,7 +100,7 @@ fn warn_sequence(
 {
     match requested {
         Some(number) if invalid => {
-            let kind = WarningKind::InvalidStatementSequence;
+            let kind = WarningKind::InvalidStatementSequence.number();
             warn_about(main, warnings, entry, kind, number, at)
         }
         _ => Ok(at),

@@ -80,7 +80,7 @@ lookup-hit o k (e ∷ es) r =
 -- ---- a turn of the search: entry i of the table has the offset v
 
 module _ (w : List ℕ) (base n o : ℕ) where
-  lower-most : lower_than o (records indexed_of 16 w base n) ≤ n
+  pub lower-most : lower_than o (records indexed_of 16 w base n) ≤ n
   lower-most = omega (arith, lower-length o (records indexed_of 16 w base n), records-length indexed_of 16 w base n)
 
   module _ (i v : ℕ) (h : i < n) (is : v ≡ le_at 8 w (base + i * 16)) where
@@ -91,10 +91,10 @@ module _ (w : List ℕ) (base n o : ℕ) where
     in_table : i < length (records indexed_of 16 w base n)
     in_table = rw (records-length indexed_of 16 w base n) h
 
-    go_up : Rising (records indexed_of 16 w base n) → v < o → i + 1 ≤ lower_than o (records indexed_of 16 w base n)
+    pub go_up : Rising (records indexed_of 16 w base n) → v < o → i + 1 ≤ lower_than o (records indexed_of 16 w base n)
     go_up r l = omega (arith, above o (indexed_of []) 0 (records indexed_of 16 w base n) i r in_table (rw offset-is l))
 
-    go_down : o ≤ v → lower_than o (records indexed_of 16 w base n) ≤ i
+    pub go_down : o ≤ v → lower_than o (records indexed_of 16 w base n) ≤ i
     go_down l = not-above o (indexed_of []) (records indexed_of 16 w base n) i in_table (rw offset-is l)
 
   -- a search that turns at m found the number of lower ones

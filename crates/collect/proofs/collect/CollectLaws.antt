@@ -1,11 +1,12 @@
 -- collect_lines of a unit with a header: the program's sequences, the unit's files, and the end.
-use mathlib.Core.Path.{◌≡◌, sym, ap, subst, ◌∙◌}
+use mathlib.Core.Path.{◌≡◌, refl, sym, ap, subst, ◌∙◌}
 use mathlib.Core.Logic.{inl, inr}
 use mathlib.Core.List.{List, [], ◌∷◌}
 use Prim.Native.Nat.{ℕ, ◌+◌, ◌*◌, ◌/◌, ◌≤◌}
 use native.Mathlib.Omega.{arith}
 use lib.ListN.{length}
-use Rattle.std.specs.Prelude.{Option as Maybe, Result, Ok, Err}
+use Rattle.std.specs.Prelude.{Option as Maybe, None, Some, Result, Ok, Err}
+use Rattle.std.specs.Option.{unwrap_or}
 use Rattle.tlv.specs.declared.refusal.Refusal.{Refusal}
 use Rattle.tlv.specs.Refusals.{number_of}
 use Rattle.tlv.specs.Outcome.{Outcome, refused, done}
@@ -38,7 +39,7 @@ use Rattle.collect.specs.declared.collect.CollectedLines.{CollectedLines}
 use Rattle.collect.specs.declared.interned.InternedUnit.{InternedUnit}
 use Rattle.collect.specs.declared.convert.Conversion.{Conversion}
 use Rattle.collect.specs.declared.source.UnitProgram.{UnitProgram}
-use Rattle.collect.specs.Sources.{source_rows, most_rows, SourceFound, FindsFault}
+use Rattle.collect.specs.Sources.{source_rows, most_rows, SourceFound, fault_or, FindsFault}
 use Rattle.collect.specs.Converts.{ConversionIn}
 use Rattle.collect.specs.Collects.{lines_extent, CollectsBy, CollectsLines}
 use Rattle.collect.specs.Stages.{UnitFound, UnitRoom, UnitInterned, InternsUnit, ConversionOf, finish_rows, FinishesBy, FinishesLines}
@@ -46,6 +47,11 @@ use Rattle.collect.proofs.FrameLaws.{but_wide}
 use Rattle.collect.proofs.HeaderPlaces.{header_is, unit-stands, unit-listed}
 use Rattle.collect.proofs.CollectSteps.{source-here, most-here, header-there, collects-first, collects_program-refused, collects_files-refused, collects_end}
 use Rattle.collect.proofs.UnitInternLaws.{indices-length}
+
+-- the number of the refusal that comes of a fault and a later one
+fault-number : (f : Maybe Refusal) (e : Refusal) → number_of (unwrap_or f e) ≡ fault_or f (number_of e)
+fault-number None e = refl
+fault-number (Some x) e = refl
 
 module _ (d : Sheets) {program w payload : List ℕ} {p free : ℕ} {source : Maybe UnitProgram} {t : StoredFiles}
     (B : UnitFound d.main.now d.supplementary.now program w t p payload free) (F : SourceFound d.main.now (p + 21) payload program source) where
@@ -77,15 +83,15 @@ module _ (d : Sheets) {program w payload : List ℕ} {p free : ℕ} {source : Ma
   fault-fits = let m = most_is in omega arith
 
   -- their fault comes first
-  fault-is : {w₁ w₂ : List ℕ} {n f : ℕ} → FindsFault (source_rows main (p + 21) source) w₁ w₂ free most n f
+  fault-is : {w₁ w₂ : List ℕ} {n : ℕ} {f : Maybe Refusal} → FindsFault (source_rows main (p + 21) source) w₁ w₂ free most f
       → ((rows : List LineRow) → line_rows (unit_here main p) (header_here main p) program ≡ done rows → (run : Run) → run_rows rows 0 [] ≡ done run
       → collect_lines (unit_here main p) program (table_of main supplementary w t) ≡ refused n)
-      → collect_lines (unit_here main p) program (table_of main supplementary w t) ≡ refused f
+      → collect_lines (unit_here main p) program (table_of main supplementary w t) ≡ refused (fault_or f n)
   fault-is {n = n} X later =
       collects-first (unit_here main p) program (table_of main supplementary w t) (header_here main p) (header-there B.header) n later
-      ∙ ap refused (sym (rw (source-here B.placed B.unit B.header F) at X.is))
+      ∙ ap refused (sym (rw (source-here B.placed B.unit B.header F) at X.is n))
 
-  fault-rest : {w₁ w₂ : List ℕ} {n f : ℕ} → FindsFault (source_rows main (p + 21) source) w₁ w₂ free most n f
+  fault-rest : {w₁ w₂ : List ℕ} {f : Maybe Refusal} → FindsFault (source_rows main (p + 21) source) w₁ w₂ free most f
       → KeptBut w w₁ ((t.base, extent t) ∷ (free, lines_extent main p program) ∷ [])
       → KeptBut w w₂ ((t.base, extent t) ∷ (free, lines_extent main p program) ∷ [])
   fault-rest X K = but_trans K (but_of X.rest (there (here (omega arith) fault-fits)))
@@ -104,15 +110,15 @@ module _ (d : Sheets) {program w payload : List ℕ} {p free : ℕ} {source : Ma
   scanned-rest S = but_of S.rest (there (here (omega arith) scanned-fits))
 
   -- its program is at fault, or its rows
-  pub collected-fault : {w₁ w₂ files files' warnings warnings' : List ℕ} {warned : ℕ} {e f : Refusal}
+  pub collected-fault : {w₁ w₂ files files' warnings warnings' : List ℕ} {warned : ℕ} {e : Refusal} {f : Maybe Refusal}
       → Scanned program w w₁ free (Err e) (line_sequence_offsets (header_of payload) program)
-      → FindsFault (source_rows main (p + 21) source) w₁ w₂ free most (number_of e) (number_of f)
-      → CollectsLines main supplementary program w w₂ files files' warnings warnings' p t warned free (Err f)
-  collected-fault {e = e} S X =
+      → FindsFault (source_rows main (p + 21) source) w₁ w₂ free most f
+      → CollectsLines main supplementary program w w₂ files files' warnings warnings' p t warned free (Err (unwrap_or f e))
+  collected-fault {e = e} {f} S X =
       let o : line_sequence_offsets (header_here main p) program ≡ refused (number_of e) = rw (header_is B.header) (sym S.is) in
       record {
-        is = fault-is X (λ rows l run ran. collects_program-refused (unit_here main p) program (table_of main supplementary w t) (header_here main p)
-            (header-there B.header) rows l run ran (number_of e) o);
+        is = rw (fault-number f e) (fault-is X (λ rows l run ran. collects_program-refused (unit_here main p) program (table_of main supplementary w t) (header_here main p)
+            (header-there B.header) rows l run ran (number_of e) o));
         rest = fault-rest X (scanned-rest S);
       }
 
@@ -153,16 +159,16 @@ module _ (d : Sheets) {program w payload : List ℕ} {p free : ℕ} {source : Ma
         but_trans (scanned-rest S) (but_wide _ I.rest (here (omega arith) (omega arith), (there (here (omega arith) (omega arith)), tt)))
 
     -- a file of its header has no number, or its rows are at fault
-    pub collected-unnumbered : {w₂ w₃ files files₀ files₁ files' warnings warnings' : List ℕ} {warned : ℕ} {e f : Refusal}
+    pub collected-unnumbered : {w₂ w₃ files files₀ files₁ files' warnings warnings' : List ℕ} {warned : ℕ} {e : Refusal} {f : Maybe Refusal}
         → InternsUnit main supplementary w₁ w₂ files files₁ p t (free + k * 8) (Err e)
-        → FindsFault (source_rows main (p + 21) source) w₂ w₃ free most (number_of e) (number_of f)
-        → CollectsLines main supplementary program w w₃ files₀ files' warnings warnings' p t warned free (Err f)
-    collected-unnumbered {e = e} I X =
+        → FindsFault (source_rows main (p + 21) source) w₂ w₃ free most f
+        → CollectsLines main supplementary program w w₃ files₀ files' warnings warnings' p t warned free (Err (unwrap_or f e))
+    collected-unnumbered {e = e} {f} I X =
         let i : intern_header_files (unit_here main p) (header_here main p) (table_of main supplementary w t) ≡ refused (number_of e)
         = rw (← table-scanned) (sym I.is) in
         record {
-          is = fault-is X (λ rows l run ran. collects_files-refused (unit_here main p) program (table_of main supplementary w t) (header_here main p)
-              (header-there B.header) rows l run ran (offsets_at w₁ free k) offsets_are (number_of e) i);
+          is = rw (fault-number f e) (fault-is X (λ rows l run ran. collects_files-refused (unit_here main p) program (table_of main supplementary w t) (header_here main p)
+              (header-there B.header) rows l run ran (offsets_at w₁ free k) offsets_are (number_of e) i));
           rest = fault-rest X (interned_rest I);
         }
 

@@ -34,8 +34,9 @@ module _ {main : List ℕ} {p : ℕ} where
   pub source-fields : (payload program : List ℕ) → NextOwn main p encoding_tag None → SourceFound main p payload program None
   unfolding line_rows rows_most map_option
   source-fields payload program own = record {
-    is = λ u enc rows. rw (enc, first-none main p encoding_tag own, rows);
-    most = λ u enc rows. rw (enc, first-none main p encoding_tag own, rows);
+    is = λ u other enc rows. rw (enc, first-none main p encoding_tag own, rows);
+    most = λ u other enc rows. rw (enc, first-none main p encoding_tag own, rows);
+    lent = tt;
   }
 
   module _ (h : Placed main p) {field : FieldSpan} (own : NextOwn main p encoding_tag (Some field)) where
@@ -74,7 +75,8 @@ module _ {main : List ℕ} {p : ℕ} where
             → SourceFound main p payload program.now (Some (record { program = program; lengths = lengths; encoding = q }))
         unfolding line_rows rows_most map_option program_in
         source-program lengths program cut = record {
-          is = λ u enc rows. rw (enc, first_found main p encoding_tag field own, cut)
-              (λ i. program_rows (encoding-is i) (opcodes-are i) program.now);
-          most = λ u enc rows. rw (enc, first_found main p encoding_tag field own);
+          is = λ u other enc rows. rw (enc, first_found main p encoding_tag field own, cut)
+              (λ i. program_rows (encoding-is i) (opcodes-are i) other);
+          most = λ u other enc rows. rw (enc, first_found main p encoding_tag field own);
+          lent = refl;
         }

@@ -6,7 +6,7 @@ use mathlib.Core.Option.{none, some}
 use Prim.Native.Nat.{ℕ, ◌+◌, ◌-◌, ◌≤◌, min}
 use native.Mathlib.Omega.{arith}
 use lib.ListN.{length, take, drop, length-drop, drop_of_length-le}
-use lib.Seq.{take_all, take-nil}
+use lib.Seq.{take_all, take-nil, take-length}
 use Rattle.std.specs.Prelude.{Some, None}
 use Rattle.std.specs.Prelude as std
 use Rattle.tlv.specs.declared.fields.FieldSpan.{FieldSpan}
@@ -29,6 +29,7 @@ use Rattle.files.specs.Pieces.{UnitPlaced}
 use Rattle.files.proofs.UnitLaws.{unit-next, unit-within}
 use Rattle.collect.specs.Collects.{UnitIn}
 use Rattle.collect.proofs.HeaderPlaces.{unit-stands}
+use Rattle.dwarf.specs.Part.{PartOf}
 
 -- ---- a part that is cut off at the end
 
@@ -69,9 +70,16 @@ module _ {s : List ℕ} {place : ℕ} (A : Accepted s) (U : UnitIn s place) wher
   unfolding payload_of
   part-is r own = unit-part s place (step_at s place) 0x10 (place + 3) 18 (place + 21) refl stands.is ∙ ap (λ (ps : List (List ℕ)). map_option part_of (head_of ps)) (sym own.is)
 
-  pub whole_part : (program : List ℕ) → NextOwn s (place + 21) part_tag None → program ≡ program_of (unit_here s place) program
+  pub whole_part : (size : ℕ) → NextOwn s (place + 21) part_tag None → PartOf s place size (record { start = 0; end = size })
   unfolding map_option program_of
-  whole_part program own = let none_is : (unit_here s place).part ≡ none = part-is None own in rw none_is
+  whole_part size own = record {
+    order = omega arith;
+    within = omega arith;
+    is = λ program l.
+        let none_is : (unit_here s place).part ≡ none = part-is None own in
+        let z : size - 0 ≡ length program = omega arith in
+        rw (none_is, z) (take-length program);
+  }
 
   module _ {f : FieldSpan} (own : NextOwn s (place + 21) part_tag (Some f)) where
     part-long : f.len ≡ 16
@@ -82,11 +90,15 @@ module _ {s : List ℕ} {place : ℕ} (A : Accepted s) (U : UnitIn s place) wher
     pub part-inside : f.start + 16 ≤ length s
     part-inside = let w = own-within s (place + 21) part_tag f own in omega (arith, part-long)
 
-    pub named-part : {a n x y : ℕ} (program : List ℕ) → a ≡ le_at 8 s f.start → n ≡ le_at 8 s (f.start + 8) → x ≡ min a (length program) → y ≡ min (a + n) (length program)
-        → take (y - x) (drop x program) ≡ program_of (unit_here s place) program
+    pub named-part : {a n x y : ℕ} (size : ℕ) → a ≡ le_at 8 s f.start → n ≡ le_at 8 s (f.start + 8) → x ≡ min a size → y ≡ min (a + n) size
+        → PartOf s place size (record { start = x; end = y })
     unfolding map_option program_of part_of
-    named-part {a} {n} {x} {y} program ea en ex ey =
-        let some_is : (unit_here s place).part ≡ some (part_of (take f.len (drop f.start s))) = part-is (Some f) own in
-        let first : le_at 8 (take f.len (drop f.start s)) 0 ≡ a = number-first s f.start f.len 8 a (omega (arith, part-long)) ea in
-        let second : le_at 8 (take f.len (drop f.start s)) 8 ≡ n = number_at s f.start f.len 8 8 n (omega (arith, part-long)) en in
-        rw (ex, ey, some_is, first, second) (cut-same a n (length program) program refl)
+    named-part {a} {n} {x} {y} size ea en ex ey = record {
+      order = omega arith;
+      within = omega arith;
+      is = λ program l.
+          let some_is : (unit_here s place).part ≡ some (part_of (take f.len (drop f.start s))) = part-is (Some f) own in
+          let first : le_at 8 (take f.len (drop f.start s)) 0 ≡ a = number-first s f.start f.len 8 a (omega (arith, part-long)) ea in
+          let second : le_at 8 (take f.len (drop f.start s)) 8 ≡ n = number_at s f.start f.len 8 8 n (omega (arith, part-long)) en in
+          rw (ex, ey, some_is, first, second) (cut-same a n size program l);
+    }

@@ -130,7 +130,7 @@ module _ {main supplementary program lists w : List ℕ} {l : Layout} {p : UnitL
 
         module _ {addresses w₂ : List ℕ} {inlines call_sites : Bool} {q : ImportContext}
             (M : MakesContext main supplementary lists addresses w₁ w₂ l p place lines indices inlines call_sites q) where
-          context-stands : ContextIn main supplementary w₂ q t₁
+          pub context-stands : ContextIn main supplementary w₂ q t₁
           context-stands = M.context t₁ grown-above grown-below C.grown.holds
 
           -- .. in the sheets that it holds

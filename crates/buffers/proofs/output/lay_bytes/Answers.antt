@@ -1,7 +1,6 @@
--- `lay_bytes` meets its contract: the bytes take the place of as many.
-use native.Mathlib.Omega.{arith}
-use Rattle.buffers.proofs.BufferLaws.{laid}
+-- `lay_bytes` meets its contract. The loop's invariant: the bytes so far are put.
+use Rattle.buffers.proofs.BufferLaws.{put_next}
 use Rattle.buffers.proofs.output.lay_bytes.Goals as goal
 
-pub returns : goal.returns
-returns c = laid c.copy_from_slice.ensures.after (omega arith) (omega arith) (omega arith)
+pub loop-i-preserved : goal.loop-i-preserved
+loop-i-preserved c = search put_next

@@ -32,7 +32,7 @@ pub row_fault-requires-clause-rows_fit : goal.row_fault-requires-clause-rows_fit
 row_fault-requires-clause-rows_fit c = omega (arith, fault-room c.args.u.sheets c.requires c.row_source-source.ensures, c.scan_program.auto.work)
 
 pub returns-in-Err : goal.returns-in-Err
-returns-in-Err c = collected-fault c.args.u.sheets c.requires c.row_source-source.ensures c.in-Err.ensures c.row_fault.ensures
+returns-in-Err c = rw c.unwrap_or.ensures (collected-fault c.args.u.sheets c.requires c.row_source-source.ensures c.in-Err.ensures c.row_fault.ensures)
 
 pub overflow_mul-base : goal.overflow_mul-base
 overflow_mul-base c = let s = scanned-small c.args.u.sheets c.requires c.row_source-source.ensures c.in-Ok.ensures c.scan_program.auto.work in
@@ -55,7 +55,7 @@ pub row_fault-requires-in-Err-intern_unit-clause-rows_fit : goal.row_fault-requi
 row_fault-requires-in-Err-intern_unit-clause-rows_fit c = omega (arith, fault-room c.args.u.sheets c.requires c.row_source-source.ensures, c.scan_program.auto.work, c.intern_unit.auto.work)
 
 pub returns-in-Err-intern_unit : goal.returns-in-Err-intern_unit
-returns-in-Err-intern_unit c = collected-unnumbered c.args.u.sheets c.requires c.row_source-source.ensures c.in-Ok.ensures c.scan_program.auto.work c.in-Err-intern_unit.ensures c.row_fault-in-Err-intern_unit.ensures
+returns-in-Err-intern_unit c = rw c.unwrap_or-in-Err-intern_unit.ensures (collected-unnumbered c.args.u.sheets c.requires c.row_source-source.ensures c.in-Ok.ensures c.scan_program.auto.work c.in-Err-intern_unit.ensures c.row_fault-in-Err-intern_unit.ensures)
 
 pub new-c-requires-clause-placed : goal.new-c-requires-clause-placed
 new-c-requires-clause-placed c = interned-placed c.args.u.sheets c.requires c.row_source-source.ensures c.in-Ok.ensures c.scan_program.auto.work c.in-Ok-intern_unit.ensures

@@ -15,7 +15,7 @@ pub returns-in-Some-get_index : goal.returns-in-Some-get_index
 returns-in-Some-get_index c = file-found (omega arith) (omega arith) c.in-Some.ensures c.get_index.ensures c.in-Some-get_index.is
 
 pub returns-in_err-warned : goal.returns-in_err-warned
-returns-in_err-warned c = rw (handed _ _ c.from_residual.ensures.1) (file-warned (omega arith) (omega arith) c.in-Some.ensures c.get_index.ensures c.in_default-get_index.is c.in_err-warned.ensures)
+returns-in_err-warned c = rw (handed _ _ c.from_residual.ensures.1) (file-warned (omega arith) (omega arith) c.in-Some.ensures c.get_index.ensures c.in_default-get_index.is (rw c.number-kind.ensures at c.in_err-warned.ensures))
 
 pub returns : goal.returns
-returns c = file-warned (omega arith) (omega arith) c.in-Some.ensures c.get_index.ensures c.in_default-get_index.is c.in_ok-warned.ensures
+returns c = file-warned (omega arith) (omega arith) c.in-Some.ensures c.get_index.ensures c.in_default-get_index.is (rw c.number-kind.ensures at c.in_ok-warned.ensures)

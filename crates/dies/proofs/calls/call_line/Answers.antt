@@ -15,7 +15,7 @@ pub returns-in-Ok : goal.returns-in-Ok
 returns-in-Ok c = rw c.in-Ok.ensures.1 (line_small (omega arith) (omega arith) c.in-Some.ensures c.in-Ok.ensures.0)
 
 pub returns-in_err-warned : goal.returns-in_err-warned
-returns-in_err-warned c = rw (handed _ _ c.from_residual.ensures.1) (line-warned (omega arith) (omega arith) c.in-Some.ensures (omega arith) c.in_err-warned.ensures)
+returns-in_err-warned c = rw (handed _ _ c.from_residual.ensures.1) (line-warned (omega arith) (omega arith) c.in-Some.ensures (omega arith) (rw c.number-kind.ensures at c.in_err-warned.ensures))
 
 pub returns : goal.returns
-returns c = line-warned (omega arith) (omega arith) c.in-Some.ensures (omega arith) c.in_ok-warned.ensures
+returns c = line-warned (omega arith) (omega arith) c.in-Some.ensures (omega arith) (rw c.number-kind.ensures at c.in_ok-warned.ensures)

@@ -1,9 +1,12 @@
--- `path::copy_in` meets its contract.
-use Rattle.std.proofs.Common.{◌≡◌, ◌+◌, ◌-◌, length, arith}
-use Rattle.paths.proofs.JoinLaws.{copied}
+-- `path::copy_in` meets its contract. The loop copies byte after byte: what is left, laid down, gives what was asked.
+use Rattle.paths.proofs.JoinLaws.{copy_start, copy_step, copy_done}
 use Rattle.paths.proofs.path.copy_in.Goals as goal
 
+pub loop-i-init : goal.loop-i-init
+loop-i-init c = search copy_start
+
+pub loop-i-preserved : goal.loop-i-preserved
+loop-i-preserved c = search copy_step
+
 pub returns : goal.returns
-returns c =
-    let e : c.args.to + length c.args.path.now - c.args.to ≡ length c.args.path.now = omega arith in
-    rw e (copied c.args.to c.args.path.now c.args.work.now _ c.copy_from_slice.ensures.after c.requires)
+returns c = search copy_done

@@ -4,13 +4,13 @@ use Rattle.references.proofs.ChainLaws.{chain-small, many-chained, walk_start, w
 use Rattle.references.proofs.keys.is_visited.Goals as goal
 
 pub overflow_mul-c : goal.overflow_mul-c
-overflow_mul-c c = let s = chain-small c.args.x _ c.chain_of-c.ensures c.chain_count.ensures in omega arith
+overflow_mul-c c = let s = chain-small c.args.x.now _ c.chain_of-c.ensures c.chain_count.ensures in omega arith
 
 pub overflow_add-x : goal.overflow_add-x
-overflow_add-x c = let s = chain-small c.args.x _ c.chain_of-c.ensures c.chain_count.ensures in omega arith
+overflow_add-x c = let s = chain-small c.args.x.now _ c.chain_of-c.ensures c.chain_count.ensures in omega arith
 
 pub read-k-requires : goal.read-k-requires
-read-k-requires c = let s = chain-small c.args.x _ c.chain_of-c.ensures c.chain_count.ensures in omega arith
+read-k-requires c = let s = chain-small c.args.x.now _ c.chain_of-c.ensures c.chain_count.ensures in omega arith
 
 pub loop-k-init : goal.loop-k-init
 loop-k-init c = walk_start (many-chained c.requires c.is_many.ensures c.if-not-is_many.false) c.chain_count.ensures c.chain_of-c.ensures c.read-k.ensures

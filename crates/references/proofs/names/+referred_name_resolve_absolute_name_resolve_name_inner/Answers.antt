@@ -32,10 +32,10 @@ resolve_absolute_name-with_entry-requires t c = let room = offset-room c.require
 
 pub resolve_absolute_name-resolve_name_inner-requires : goal.resolve_absolute_name-resolve_name_inner-requires
 resolve_absolute_name-resolve_name_inner-requires t c = (
-  rw c.to_entry.ensures (omega arith),
+  rw c.to_entry-next.ensures (omega arith),
   (
     rw c.with_entry.ensures.one_followed (offset-search c.requires.search_in c.requires.aims c.is_visited.ensures c.if-is_visited.false c.push_key.ensures (search rules)),
-    rw c.to_entry.ensures (absolute-stands c.args.at.left c.requires.search_in c.requires.aims c.is_visited.ensures c.if-is_visited.false c.of.ensures c.in_ok-found.ensures _ (ap Ok c.in-Some.is)),
+    rw c.to_entry-next.ensures (absolute-stands c.args.at.now.left c.requires.search_in c.requires.aims c.is_visited.ensures c.if-is_visited.false c.of.ensures c.in_ok-found.ensures _ (ap Ok c.in-Some.is)),
   ),
 )
 
@@ -47,13 +47,13 @@ resolve_absolute_name-returns-in_default t c =
 pub resolve_absolute_name-returns : goal.resolve_absolute_name-returns
 resolve_absolute_name-returns t c =
     absolute-at _ c.requires.search_in c.requires.aims c.is_visited.ensures c.if-is_visited.false c.of.ensures c.in_ok-found.ensures c.push_key.ensures _ (ap Ok c.in-Some.is)
-    (rw (c.with_entry.ensures.one_followed, c.with_entry.ensures.one_read, c.to_entry.ensures) at c.resolve_name_inner.ensures)
+    (rw (c.with_entry.ensures.one_followed, c.with_entry.ensures.one_read, c.to_entry-next.ensures) at c.resolve_name_inner.ensures)
 
 pub resolve_name_inner-returns-then-at-eq0 : goal.resolve_name_inner-returns-then-at-eq0
 resolve_name_inner-returns-then-at-eq0 t c = inner_deep c.requires.search_in c.args.trail.now.few c.requires.stands c.if-at-eq0.true refl
 
 pub resolve_name_inner-own_name-requires-clause-placed : goal.resolve_name_inner-own_name-requires-clause-placed
-resolve_name_inner-own_name-requires-clause-placed t c = placed_at c.requires.search_in c.args.at.input c.of.ensures
+resolve_name_inner-own_name-requires-clause-placed t c = placed_at c.requires.search_in c.args.at.now.input c.of.ensures
 
 pub resolve_name_inner-returns-in_err-own : goal.resolve_name_inner-returns-in_err-own
 resolve_name_inner-returns-in_err-own t c = rw (handed _ _ c.from_residual.ensures.1) (inner-named c.requires.search_in c.args.trail.now.few c.requires.stands c.if-at-eq0.false c.of.ensures c.in_err-own.ensures (refused-answer _ _ (numbered _)) refl)

@@ -7,7 +7,7 @@ use Rattle.references.proofs.WayLaws.{way-listed, way_sum, way_overflow, way_see
 use Rattle.references.proofs.ways.unit_way.Goals as goal
 
 pub absolute_entry_offset-requires-clause-placed : goal.absolute_entry_offset-requires-clause-placed
-absolute_entry_offset-requires-clause-placed c = placed_at c.requires.search_in c.args.at.input c.of-s.ensures
+absolute_entry_offset-requires-clause-placed c = placed_at c.requires.search_in c.args.at.now.input c.of-s.ensures
 
 pub absolute_entry_offset-requires-clause-listed : goal.absolute_entry_offset-requires-clause-listed
 absolute_entry_offset-requires-clause-listed c = way-listed c.args.offset c.requires.search_in c.requires.stands c.of-s.ensures

@@ -5,7 +5,7 @@ use Rattle.references.proofs.ways.way_of.Goals.{then-eq-via-then-eq, then-eq-via
 use Rattle.references.proofs.ways.way_of.Goals as goal
 
 pub reference_at-requires-clause-placed : goal.reference_at-requires-clause-placed
-reference_at-requires-clause-placed c = placed_at c.requires.search_in c.args.at.input c.of.ensures
+reference_at-requires-clause-placed c = placed_at c.requires.search_in c.args.at.now.input c.of.ensures
 
 pub unit_way-requires-clause-possible_key : goal.unit_way-requires-clause-possible_key
 unit_way-requires-clause-possible_key c = possible-unit c.requires.search_in _ c.requires.stands (reference-is _ c.requires.search_in c.requires.stands c.of.ensures c.reference_at.ensures (rw c.in-Some-Unit.field-0-is at c.in-Some-Unit.is))

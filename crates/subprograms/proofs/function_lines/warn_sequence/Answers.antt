@@ -5,7 +5,7 @@ use Rattle.subprograms.proofs.function_lines.SequenceLaws.{warned-none, warned-a
 use Rattle.subprograms.proofs.function_lines.warn_sequence.Goals as goal
 
 pub returns-in-Some : goal.returns-in-Some
-returns-in-Some c = rw (c.in-Some.is, c.if-invalid.true) (warned-about _ c.warn_about.ensures)
+returns-in-Some c = rw (c.in-Some.is, c.if-invalid.true) (warned-about _ (rw c.number-kind.ensures at c.warn_about.ensures))
 
 pub returns-in_default : goal.returns-in_default
 returns-in_default c = warned-none _ _ (rw (c.in-Some.is, c.if-invalid.false) refl) (omega arith) (omega arith)

@@ -7,4 +7,4 @@ pub returns-in-Unnamed : goal.returns-in-Unnamed
 returns-in-Unnamed c = row-unnamed c.requires.conversion_in c.args.row c.requires.unnumbered (omega arith) (omega arith) (omega arith) c.sought_file.ensures c.in-Unnamed.is
 
 pub returns-in-Missing : goal.returns-in-Missing
-returns-in-Missing c = row-missing c.requires.conversion_in c.args.row c.requires.unnumbered (omega arith) c.sought_file.ensures c.in-Missing.is c.put_warning.ensures
+returns-in-Missing c = row-missing c.requires.conversion_in c.args.row c.requires.unnumbered (omega arith) c.sought_file.ensures c.in-Missing.is (rw c.number.ensures at c.put_warning.ensures)

@@ -9,7 +9,7 @@ pub make_call_site-requires-clause-details_in : goal.make_call_site-requires-cla
 make_call_site-requires-clause-details_in c = shut-details c.args.self.now.name.now c.args.records.now c.args.warnings.now c.requires.details_in c.requires.entry_known c.requires.fits c.read-depth.ensures c.read-tag.ensures c.close.ensures c.close.auto.work
 
 pub returns-then-self : goal.returns-then-self
-returns-then-self c = one-site _ _ _ c.requires.details_in c.requires.entry_known c.requires.fits c.read-depth.ensures c.read-tag.ensures c.close.ensures c.args.self.now.context.lists.lists.now c.args.self.now.context.lists.addresses.now (omega arith) (omega arith) c.if-self.true c.if-tag-eq-DW_TAG_CALL_SITE.true c.make_call_site.ensures
+returns-then-self c = one-site _ _ _ c.requires.details_in c.requires.entry_known c.requires.fits c.read-depth.ensures c.read-tag.ensures c.close.ensures c.args.self.now.context.lists.lists.now c.args.self.now.context.lists.addresses.now (omega arith) (omega arith) c.if-self.true c.if-tag-eq-DW_TAG_CALL_SITE.true (c.make_call_site.ensures c.args.self.now.context.lists.lists.now c.args.self.now.context.lists.addresses.now)
 
 pub make_inline_node-requires-clause-details_in : goal.make_inline_node-requires-clause-details_in
 make_inline_node-requires-clause-details_in c = shut-details c.args.self.now.name.now c.args.records.now c.args.warnings.now c.requires.details_in c.requires.entry_known c.requires.fits c.read-depth.ensures c.read-tag.ensures c.close.ensures c.close.auto.work

@@ -24,22 +24,22 @@ unfolding contains
 outside range a is f = sym is ∙ f
 
 pub returns-in_err-address : goal.returns-in_err-address
-returns-in_err-address c = rw (handed _ _ c.from_residual.ensures.1) (site-failed c.requires.details_in c.requires.entry_known c.requires.fits c.args.self.now.context.lists.lists.now c.args.self.now.context.lists.addresses.now (rw c.entry-entry.ensures at c.return_address.ensures) c.in_err-address.was)
+returns-in_err-address c = λ lists addresses. rw (handed _ _ c.from_residual.ensures.1) (site-failed c.requires.details_in c.requires.entry_known c.requires.fits lists addresses (rw c.entry-entry.ensures at c.return_address.ensures) c.in_err-address.was)
 
 pub returns-in_default : goal.returns-in_default
-returns-in_default c = site-missing c.requires.details_in c.requires.entry_known c.requires.fits c.args.self.now.context.lists.lists.now c.args.self.now.context.lists.addresses.now (rw c.entry-entry.ensures at c.return_address.ensures) (c.in_ok-address.was ∙ ap Ok c.in_default.is)
+returns-in_default c = λ lists addresses. site-missing c.requires.details_in c.requires.entry_known c.requires.fits lists addresses (rw c.entry-entry.ensures at c.return_address.ensures) (c.in_ok-address.was ∙ ap Ok c.in_default.is)
 
 pub returns-then-not-holds : goal.returns-then-not-holds
-returns-then-not-holds c = site-outside c.requires.details_in c.requires.entry_known c.requires.fits c.args.self.now.context.lists.lists.now c.args.self.now.context.lists.addresses.now (rw c.entry-entry.ensures at c.return_address.ensures) (c.in_ok-address.was ∙ ap Ok c.in-Some.is) (outside _ _ c.holds.ensures (not-true _ (ap not c.if-not-holds.true)))
+returns-then-not-holds c = λ lists addresses. site-outside c.requires.details_in c.requires.entry_known c.requires.fits lists addresses (rw c.entry-entry.ensures at c.return_address.ensures) (c.in_ok-address.was ∙ ap Ok c.in-Some.is) (outside _ _ c.holds.ensures (not-true _ (ap not c.if-not-holds.true)))
 
 pub returns-in_err-resolve_reference_name : goal.returns-in_err-resolve_reference_name
-returns-in_err-resolve_reference_name c = rw (handed _ _ c.from_residual-in_err-resolve_reference_name.ensures.1) (site-unnamed c.requires.details_in c.requires.entry_known c.requires.fits c.args.self.now.context.lists.lists.now c.args.self.now.context.lists.addresses.now (rw c.entry-entry.ensures at c.return_address.ensures) (c.in_ok-address.was ∙ ap Ok c.in-Some.is) (inside _ _ c.holds.ensures (not-false _ (ap not c.if-not-holds.false))) (rw c.entry-entry.ensures at c.in_err-resolve_reference_name.ensures) (numbered _))
+returns-in_err-resolve_reference_name c = λ lists addresses. rw (handed _ _ c.from_residual-in_err-resolve_reference_name.ensures.1) (site-unnamed c.requires.details_in c.requires.entry_known c.requires.fits lists addresses (rw c.entry-entry.ensures at c.return_address.ensures) (c.in_ok-address.was ∙ ap Ok c.in-Some.is) (inside _ _ c.holds.ensures (not-false _ (ap not c.if-not-holds.false))) (rw c.entry-entry.ensures at c.in_err-resolve_reference_name.ensures) (numbered _))
 
 pub put_open_site-requires : goal.put_open_site-requires
 put_open_site-requires c = (omega (arith, c.requires.fits.sites, c.requires.details_in.stack, c.requires.details_in.sites, c.requires.details_in.tables.keys.room, left_here c.requires.details_in c.requires.entry_known), place-small c.requires.details_in c.requires.entry_known (slice-bytes c.args.work.now c.slice_known-1.given))
 
 pub returns : goal.returns
-returns c = site-pushed c.requires.details_in c.requires.entry_known c.requires.fits c.args.self.now.context.lists.lists.now c.args.self.now.context.lists.addresses.now (rw c.entry-entry.ensures at c.return_address.ensures) (c.in_ok-address.was ∙ ap Ok c.in-Some.is) (inside _ _ c.holds.ensures (not-false _ (ap not c.if-not-holds.false))) (rw c.entry-entry.ensures at c.in_ok-resolve_reference_name.ensures) refl (entry_depth-here (details-accepted c.requires.details_in) c.requires.entry_known ∙ sym c.read-depth.ensures) c.put_open_site.ensures
+returns c = λ lists addresses. site-pushed c.requires.details_in c.requires.entry_known c.requires.fits lists addresses (rw c.entry-entry.ensures at c.return_address.ensures) (c.in_ok-address.was ∙ ap Ok c.in-Some.is) (inside _ _ c.holds.ensures (not-false _ (ap not c.if-not-holds.false))) (rw c.entry-entry.ensures at c.in_ok-resolve_reference_name.ensures) refl (entry_depth-here (details-accepted c.requires.details_in) c.requires.entry_known ∙ sym c.read-depth.ensures) c.put_open_site.ensures
 
 pub overflow_add-p : goal.overflow_add-p
 overflow_add-p c = omega (arith, known_inside c.requires.details_in c.requires.entry_known)

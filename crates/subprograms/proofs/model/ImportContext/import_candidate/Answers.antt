@@ -14,4 +14,4 @@ returns-then-is_live_range-clause-is c = candidate-live _ _ _ _ _ c.requires.con
 
 pub returns-clause-is : goal.returns-clause-is
 returns-clause-is c = candidate-dead _ _ _ _ _ c.requires.context_in c.is_tombstone.ensures c.if-is_tombstone.false
-    c.is_live_range.ensures c.if-is_live_range.false (omega (arith, c.well_formed)) (omega (arith, c.well_formed)) c.put_warning.ensures (rejects-from c.rejected-2.ensures)
+    c.is_live_range.ensures c.if-is_live_range.false (omega (arith, c.well_formed)) (omega (arith, c.well_formed)) (rw c.number.ensures at c.put_warning.ensures) (rejects-from c.rejected-2.ensures)
