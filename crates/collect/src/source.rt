@@ -1,7 +1,6 @@
 // Where the rows of a unit come from, its row fields or its line program, and how many there are.
 ghost use Rattle.std.specs.Prelude.{◌+◌, ◌*◌, ◌≤◌, length};
 ghost use Rattle.tlv.specs.Checked.{Placed};
-ghost use Rattle.tlv.specs.Refusals.{number_of};
 ghost use Rattle.tlv.specs.Grammar.{encoding_field_size};
 ghost use Rattle.rows.specs.Sizes.{row_room};
 ghost use Rattle.collect.specs.Sources.{EncodingRead, source_rows, most_rows, SourceFound, GathersUnit, FindsFault};

@@ -35,7 +35,7 @@ const HASH_FACTOR: u64 = 2654435761;
 const HASH_DROPPED: u64 = 65536;
 
 // A target that a search follows: the source that it is remembered under, and its offset in the section.
-// The offset stands first, here and in what has a target or an entry: a gap between two fields is copied with them, byte by byte.
+// What is 8 bytes wide stands first, here and in EntryAt and OffsetAt: a gap between two fields is copied with them, in pieces.
 #[derive(Clone, Copy, Debug, PartialEq, Eq)]
 pub struct DieKey {
     pub offset: u64,

@@ -3,4 +3,4 @@ use mathlib.Core.Path.{refl}
 use Rattle.dwarf.proofs.part.program_part.Goals as goal
 
 pub returns : goal.returns
-returns c = c.part_range.ensures.is c.args.program.now refl
+returns c = c.part_range-part.ensures.is c.args.program.now refl
