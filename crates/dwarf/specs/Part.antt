@@ -1,4 +1,4 @@
--- Contract. Where a unit's part of the lent line program stands (document 02, E11).
+-- Contract. Where a unit's part of the lent line program stands, by its field 1e.
 use Rattle.std.specs.Prelude.{◌≡◌, List, ℕ, ◌-◌, ◌≤◌, length, take, drop}
 use Rattle.tlv.specs.Model.{program_of}
 use Rattle.access.specs.Places.{unit_here}
