@@ -141,11 +141,11 @@ header-there H = H.is ∙ ap some (sym (header_is H))
 
 -- the rows by the program that is lent
 module _ (main : List ℕ) (p : ℕ) (program : List ℕ) where
-  rows-lent : (source : Maybe UnitProgram) → ProgramLent source program → source_rows main p source ≡ rows_with main p source program
+  pub rows-lent : (source : Maybe UnitProgram) → ProgramLent source program → source_rows main p source ≡ rows_with main p source program
   rows-lent None L = refl
   rows-lent (Some u) L = ap (program_in u.encoding u.lengths.now) L
 
-  most-lent : (source : Maybe UnitProgram) → ProgramLent source program → most_rows main p source ≡ most_with main p source program
+  pub most-lent : (source : Maybe UnitProgram) → ProgramLent source program → most_rows main p source ≡ most_with main p source program
   most-lent None L = refl
   most-lent (Some u) L = ap length L
 

@@ -6,7 +6,9 @@ use native.Mathlib.Omega.{arith}
 use lib.ListN.{length}
 use Rattle.std.specs.Prelude.{Option as Maybe, Some, None, Result, Ok, Err}
 use Rattle.std.specs.Result.{result_err}
+use Rattle.std.specs.Option.{unwrap_or}
 use Rattle.tlv.specs.declared.refusal.Refusal.{Refusal}
+use Rattle.tlv.specs.Refusals.{number_of}
 use Rattle.tlv.specs.Outcome.{Outcome, ◌>>=◌}
 use Rattle.tlv.specs.Grammar.{row_field_size}
 use Rattle.tlv.specs.Model.{LineRow, row_of}
@@ -20,7 +22,7 @@ use Rattle.collect.specs.declared.unit_rows.UnitRows.{UnitRows}
 use Rattle.collect.specs.declared.source.GatheredRows.{GatheredRows}
 use Rattle.collect.specs.Passes.{rows_from, count_rows, counted_of}
 use Rattle.collect.specs.Tables.{table_rows, GathersRows}
-use Rattle.collect.specs.Sources.{program_in, source_rows, most_rows, rows_here, RowsReady, GathersUnit, FindsFault}
+use Rattle.collect.specs.Sources.{program_in, source_rows, most_rows, rows_here, RowsReady, GathersUnit, fault_or, FindsFault}
 
 -- ---- from the row fields
 
@@ -67,6 +69,11 @@ module _ {x : Outcome (List LineRow)} {main w w' : List ℕ} {free most : ℕ} w
   unfolding ◌>>=◌
   fault-first (Ok r) G = record { is = λ later. rw (G.is.is, G.is.counted.is); rest = G.rest }
   fault-first (Err e) G = record { is = λ later. rw G.is; rest = G.rest }
+
+-- the number of the refusal that comes of a fault and a later one
+pub fault-number : (f : Maybe Refusal) (later : Refusal) → number_of (unwrap_or f later) ≡ fault_or f (number_of later)
+fault-number None later = refl
+fault-number (Some e) later = refl
 
 -- ---- what stays
 

@@ -12,9 +12,11 @@ use Rattle.tlv.specs.Lists.{Any, first, map_option}
 use Rattle.tlv.specs.Fields.{fields}
 use Rattle.tlv.specs.Checked.{Accepts}
 use Rattle.tlv.specs.Model.{units}
+use Rattle.tlv.specs.declared.refusal.Refusal.{Refusal}
 use Rattle.tlv.proofs.TestLaws.{by_test, and_left}
+use Rattle.tlv.proofs.AnswerLaws.{ok-some, err-none}
 use Rattle.buffers.specs.Table.{records}
-use Rattle.std.specs.Prelude.{Some, None, Ok, Err}
+use Rattle.std.specs.Prelude.{Some, None, Ok, Err, ok_or}
 use Rattle.std.specs.declared.option.Option.{Option as Given}
 use Rattle.access.specs.declared.index.EntryPlace.{EntryPlace}
 use Rattle.access.specs.Places.{unit_here, entry_here, unit_places, IndexedEntry, entry_index, UnitOf}
@@ -29,7 +31,7 @@ use Rattle.access.proofs.ContainingLaws.{containing-places, units-containing}
 use Rattle.access.proofs.UnitsOrder.{entry-containing}
 use Rattle.references.specs.declared.tables.Index.{Index}
 use Rattle.references.specs.Search.{or_no_entry, entry_at, unit_containing}
-use Rattle.references.specs.Tables.{IndexIn, EntryKnown, LeadsTo, LeadsIn}
+use Rattle.references.specs.Tables.{IndexIn, EntryKnown, Leads, LeadsTo, LeadsIn}
 
 -- ---- the first that passes a test
 
@@ -88,8 +90,11 @@ module _ {s w : List ℕ} {x : Index} (I : IndexIn s w x) (o : ℕ) where
     place_is : place_of r ≡ containing o (map (indexed_unit s) (unit_places 0 (fields s)))
     place_is = e ∙ ap (containing o) I.units
 
-    pub leads_outside : r ≡ None → LeadsTo s o (Ok None)
-    leads_outside is = record { is = unit-none s o (sym (rw is at place_is)) }
+    pub leads_to_outside : r ≡ None → LeadsTo s o (Ok None)
+    leads_to_outside is = record { is = unit-none s o (sym (rw is at place_is)) }
+
+    pub leads_outside : r ≡ None → Leads s o (Ok None)
+    leads_outside is = record { is = (leads_to_outside is).is }
 
     -- no entry of the unit starts there
     pub leads_no-entry : (q : ℕ) → r ≡ Some q → found_of o None ≡ lookup o (records indexed_of 16 w x.entries.base x.entries.count) → LeadsTo s o (Err (record { unit = q }))
@@ -106,6 +111,14 @@ module _ {s w : List ℕ} {x : Index} (I : IndexIn s w x) (o : ℕ) where
           );
         }
 
+    -- as `ok_or` has it, for an answer that names no unit
+    pub leads-missing : (q : ℕ) → r ≡ Some q → (f : Given EntryPlace) → found_of o f ≡ lookup o (records indexed_of 16 w x.entries.base x.entries.count)
+        → {e : Refusal} → Err e ≡ ok_or f Refusal.NoEntry → Leads s o (Err e)
+    leads-missing q is f answer made =
+        let none = err-none f made in
+        let here = (leads_no-entry q is (rw none.0 at answer)).is in
+        rw none.1 (record { is = (refl, record { unit = q; containing = here.0; missing = here.1 }) })
+
   -- no entry of the unit at q starts at its offset own
   module _ (q own : ℕ) (listed : UnitOf s q) (sum : o ≡ (unit_here s q).offset + own) where
     own-entry : entry_at (unit_here s q) own ≡ or_no_entry (entry_in s q (lookup o (entry_index 0 0 0 (fields s))))
@@ -121,9 +134,9 @@ module _ {s w : List ℕ} {x : Index} (I : IndexIn s w x) (o : ℕ) where
     found : lookup o (entry_index 0 0 0 (fields s)) ≡ some (record { offset = o; place = f.place; unit = f.unit })
     found = answer_at s w x.entries.base x.entries.count o I.entries f answer
 
-    pub leads_at : LeadsTo s o (Ok (Some f))
+    pub leads_to_at : LeadsTo s o (Ok (Some f))
     unfolding entry_at
-    leads_at =
+    leads_to_at =
         let e : IndexedEntry = record { offset = o; place = f.place; unit = f.unit } in
         let placed = found-placed s I.number I.accepted o e found in
         let sum = placed.offset in
@@ -136,6 +149,9 @@ module _ {s w : List ℕ} {x : Index} (I : IndexIn s w x) (o : ℕ) where
           );
         }
 
+    pub leads_at : Leads s o (Ok (Some f))
+    leads_at = record { is = leads_to_at.is }
+
     -- in the unit at q, which o is an offset of by its own offset `own`
     module _ (q own : ℕ) (listed : UnitOf s q) (sum : o ≡ (unit_here s q).offset + own) where
       pub leads_in-other : (f.unit ≡ q → ⊥) → LeadsIn s q own None
@@ -147,6 +163,11 @@ module _ {s w : List ℕ} {x : Index} (I : IndexIn s w x) (o : ℕ) where
       leads_in_at same = record {
         is = (own-entry q own listed sum ∙ rw (found, eq-eqb f.unit q same), rw same at (entry_known s o (record { offset = o; place = f.place; unit = f.unit }) found));
       }
+
+  -- as `ok_or` has it
+  pub leads-found : (f : Given EntryPlace) {v : EntryPlace} → found_of o f ≡ lookup o (records indexed_of 16 w x.entries.base x.entries.count) → Ok v ≡ ok_or f Refusal.NoEntry
+      → Leads s o (Ok (Some v))
+  leads-found f {v} answer made = leads_at v (rw (ok-some f _ made) at answer)
 
 -- ---- the entry of a unit that the index knows
 

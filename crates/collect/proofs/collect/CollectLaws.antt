@@ -1,11 +1,11 @@
 -- collect_lines of a unit with a header: the program's sequences, the unit's files, and the end.
-use mathlib.Core.Path.{◌≡◌, refl, sym, ap, subst, ◌∙◌}
+use mathlib.Core.Path.{◌≡◌, sym, ap, subst, ◌∙◌}
 use mathlib.Core.Logic.{inl, inr}
 use mathlib.Core.List.{List, [], ◌∷◌}
 use Prim.Native.Nat.{ℕ, ◌+◌, ◌*◌, ◌/◌, ◌≤◌}
 use native.Mathlib.Omega.{arith}
 use lib.ListN.{length}
-use Rattle.std.specs.Prelude.{Option as Maybe, None, Some, Result, Ok, Err}
+use Rattle.std.specs.Prelude.{Option as Maybe, Result, Ok, Err}
 use Rattle.std.specs.Option.{unwrap_or}
 use Rattle.tlv.specs.declared.refusal.Refusal.{Refusal}
 use Rattle.tlv.specs.Refusals.{number_of}
@@ -44,14 +44,10 @@ use Rattle.collect.specs.Converts.{ConversionIn}
 use Rattle.collect.specs.Collects.{lines_extent, CollectsBy, CollectsLines}
 use Rattle.collect.specs.Stages.{UnitFound, UnitRoom, UnitInterned, InternsUnit, ConversionOf, finish_rows, FinishesBy, FinishesLines}
 use Rattle.collect.proofs.FrameLaws.{but_wide}
+use Rattle.collect.proofs.UnitRowsLaws.{fault-number}
 use Rattle.collect.proofs.HeaderPlaces.{header_is, unit-stands, unit-listed}
 use Rattle.collect.proofs.CollectSteps.{source-here, most-here, header-there, collects-first, collects_program-refused, collects_files-refused, collects_end}
 use Rattle.collect.proofs.UnitInternLaws.{indices-length}
-
--- the number of the refusal that comes of a fault and a later one
-fault-number : (f : Maybe Refusal) (e : Refusal) → number_of (unwrap_or f e) ≡ fault_or f (number_of e)
-fault-number None e = refl
-fault-number (Some x) e = refl
 
 module _ (d : Sheets) {program w payload : List ℕ} {p free : ℕ} {source : Maybe UnitProgram} {t : StoredFiles}
     (B : UnitFound d.main.now d.supplementary.now program w t p payload free) (F : SourceFound d.main.now (p + 21) payload program source) where
